@@ -1,0 +1,410 @@
+-- The steps keep a sound record sound, and send at most one answer for each transaction that they touch.
+use Prim.Native.Nat.{ℕ, zero, suc, _+_, _*_, _≤_, _<_}
+use native.Mathlib.Omega.{arith}
+use borrow.Author.Tests.{ltb-true, leb-true, leb-false, lt-ltb, le-leb}
+use mathlib.Core.Path.{_≡_, refl, sym, ap, _∙_, subst}
+use mathlib.Core.Bool.{Bool, true, false, not, _&&_, _||_, true≢false}
+use mathlib.Core.List.{List, [], _∷_, _++_, map, append-assoc}
+use lib.Dec.{leb, ltb, eqb}
+use lib.ListN.{length, take, length-append, length-map, length-take}
+use Rattle.model.specs.Limits.{mostOperations, mostFragments, depth, mostLive}
+use Rattle.model.specs.Operations.{Cells, Outcome, operate, put, writes, content, multi, last, operations}
+use Rattle.model.specs.Transactions.{State, Running, Finished, Failed, finished, Reply, Held, Sent, NoReply, holds, Uncommitted, Waiting, numbers, Answer, answer, front}
+use Rattle.model.specs.Steps.{noted, Ran, runFrom, run, stateAfter, begun, again, oneCoordinator, nearest, lastFinished, mayTake, Place, placed, Queues, sending, drain, joined, continued, heldBy, sent, settled, committed, requeued, aborted, undone}
+use Rattle.model.specs.Refusals.{every, inside, formed, storable, behind, ready, fits, isState, isReply}
+use Rattle.model.specs.Demand.{Rises}
+use Rattle.model.specs.declared.Op.{Op}
+use Rattle.model.specs.declared.Fragment.{Fragment}
+use Rattle.model.specs.declared.Undo.{Undo}
+use Rattle.model.specs.declared.Did.the-variants.{Number, Fails}
+use Rattle.model.proofs.Chain.{All, all-append}
+use Rattle.model.proofs.Tests.{both, and-left, and-right, or-left, or-right, or-true, every-append}
+use Rattle.model.proofs.Sound.{cellInside, SoundOne, Stored, badFront, Sound}
+
+-- What a run leaves
+
+pub record Left (ct bound : ℕ) (r : Ran) : Type 0 where
+  pub inside : every (cellInside ct) (r .undo) ≡ true
+  pub few : length (r .undo) ≤ bound
+  pub numbers : length (r .outcome .numbers) ≤ mostOperations
+  pub place : r .outcome .place ≤ mostOperations
+
+run-left : (ct p : ℕ) (os : List Op) (cs : Cells) (ns : List ℕ) (us : List Undo) → every (λ (o : Op). ltb (o .cell) ct) os ≡ true → p + length os ≤ 9 → length ns + 1 ≡ p
+    → every (cellInside ct) us ≡ true → Left ct (length us + length os) (runFrom p os cs ns us)
+unfolding runFrom
+run-left ct p [] cs ns us h k e a = record { inside = a; few = omega arith; numbers = omega arith; place = omega arith }
+run-left ct p (o ∷ os) cs ns us h k e a =
+    elim (operate o cs)
+    as (λ d. Left ct (length us + suc (length os))
+    (elim d [
+      | Number y ↦ runFrom (suc p) os (put o y cs) (ns ++ (y ∷ [])) (noted o cs us)
+      | Fails ↦ record { cells = undone us cs; outcome = record { place = p; numbers = [] }; undo = [] }
+    ])) [
+      | Number y ↦
+          let x = run-left ct (suc p) os (put o y cs) (ns ++ (y ∷ [])) (noted o cs us) (and-right (ltb (o .cell) ct) _ h) (omega arith) (omega (arith, length-append ns (y ∷ []))) (noted-in (writes (o .code))) in
+          record { inside = x .inside; few = omega (arith, x .few, noted-few (writes (o .code))); numbers = x .numbers; place = x .place }
+      | Fails ↦ record { inside = refl; few = omega arith; numbers = omega arith; place = omega arith }
+    ]
+  where
+    entry : Undo
+    entry = record { cell = o .cell; old = content o cs }
+
+    more : Bool → List Undo
+    more b = elim b [ true ↦ us ++ (entry ∷ []) | false ↦ us ]
+
+    noted-in : (b : Bool) → every (cellInside ct) (more b) ≡ true
+    noted-in true = every-append (cellInside ct) us (entry ∷ []) a (both (ltb (o .cell) ct) true (and-left (ltb (o .cell) ct) _ h) refl)
+    noted-in false = a
+
+    noted-few : (b : Bool) → length (more b) ≤ suc (length us)
+    noted-few true = omega (arith, length-append us (entry ∷ []))
+    noted-few false = omega arith
+
+-- a stored fragment has at most eight operations
+pub eight-operations : (ct : ℕ) (f : Fragment) → storable ct f ≡ true → length (operations f) ≤ mostOperations
+unfolding formed operations
+eight-operations ct f s =
+    let c : f .count ≤ mostOperations = leb-true (f .count) mostOperations (and-right (leb 1 (f .count)) _ (and-left _ _ (and-left _ _ (and-left _ _ (and-left _ _ (and-left (formed f) (inside ct f) s)))))) in
+    omega (arith, length-take (f .count) (f .row))
+
+ran-left : (ct : ℕ) (f : Fragment) (cs : Cells) (us : List Undo) → storable ct f ≡ true → every (cellInside ct) us ≡ true → Left ct (length us + 8) (run f cs us)
+unfolding inside
+ran-left ct f cs us s a =
+    let k : length (operations f) ≤ mostOperations = eight-operations ct f s in
+    let x = run-left ct 1 (operations f) cs [] us (and-right (formed f) (inside ct f) s) (omega arith) refl a in
+    record { inside = x .inside; few = omega (arith, x .few); numbers = x .numbers; place = x .place }
+
+state-read : (f : Fragment) (o : Outcome) → isState (stateAfter f o) ≡ true
+state-read f o = go (eqb (o .place) 0) (last f)
+  where
+    go : (a b : Bool) → isState (elim a as (λ _. State) [ true ↦ elim b [ true ↦ Finished | false ↦ Running ] | false ↦ Failed ]) ≡ true
+    go true true = refl
+    go true false = refl
+    go false b = refl
+
+-- a waiting one, begun
+begun-sound : (ct : ℕ) (w : Waiting) (cs : Cells) (a : Reply) → Stored ct w → fits a ≡ true → isReply a ≡ true → (multi (w .fragment) || holds a) ≡ true
+    → SoundOne ct (begun w (run (w .fragment) cs []) a)
+begun-sound ct w cs a s f r h =
+    let x = ran-left ct (w .fragment) cs [] s refl in
+    record {
+      eight = omega arith;
+      stored = s;
+      some = omega arith;
+      held = h;
+      fits = f;
+      inside = x .inside;
+      few = omega (arith, x .few);
+      read = both (isState (stateAfter (w .fragment) (run (w .fragment) cs [] .outcome))) (isReply a) (state-read (w .fragment) (run (w .fragment) cs [] .outcome)) r;
+    }
+
+front-multi : (u : Uncommitted) → badFront u ≡ false → multi (u .first) ≡ true
+front-multi u h = borrow.Author.Tests.not-false (multi (u .first)) (or-left (not (multi (u .first))) (holds (u .reply)) h)
+
+-- the front, after one more fragment
+again-sound : (ct : ℕ) (u : Uncommitted) (f : Fragment) (cs : Cells) → SoundOne ct u → storable ct f ≡ true → u .ran < mostFragments → multi (u .first) ≡ true
+    → SoundOne ct (again u f (run f cs (u .undo)))
+again-sound ct u f cs o s k m =
+    let x = ran-left ct f cs (u .undo) s (o .inside) in
+    record {
+      eight = omega arith;
+      stored = o .stored;
+      some = omega arith;
+      held = ap (λ (b : Bool). b || false) m;
+      fits = refl;
+      inside = x .inside;
+      few = omega (arith, x .few, o .few);
+      read = both (isState (stateAfter f (run f cs (u .undo) .outcome))) true (state-read f (run f cs (u .undo) .outcome)) refl;
+    }
+
+-- Numbers of the queues
+
+pub rises-weaken : (m n top : ℕ) (l : List ℕ) → m ≤ n → Rises n top l → Rises m top l
+rises-weaken m n top [] k h = omega arith
+rises-weaken m n top (x ∷ l) k h = (omega arith, h .1)
+
+rises-more : (n top m : ℕ) (l : List ℕ) → top < m → Rises n top l → Rises n m (l ++ (m ∷ []))
+rises-more n top m [] k h = (omega arith, omega arith)
+rises-more n top m (x ∷ l) k h = (h .0, rises-more x top m l k (h .1))
+
+numbers-snoc : (us : List Uncommitted) (w : Waiting) (ws : List Waiting) (v : Uncommitted) → v .number ≡ w .number → numbers (us ++ (v ∷ [])) ws ≡ numbers us (w ∷ ws)
+numbers-snoc [] w ws v e = ap {B = List ℕ} (λ (n : ℕ). n ∷ map (λ (w : Waiting). w .number) ws) e
+numbers-snoc (u ∷ us) w ws v e = ap {B = List ℕ} (λ (l : List ℕ). u .number ∷ l) (numbers-snoc us w ws v e)
+
+numbers-more : (us : List Uncommitted) (ws : List Waiting) (w : Waiting) → numbers us (ws ++ (w ∷ [])) ≡ numbers us ws ++ (w .number ∷ [])
+numbers-more [] [] w = refl
+numbers-more [] (v ∷ ws) w = ap {B = List ℕ} (λ (l : List ℕ). v .number ∷ l) (numbers-more [] ws w)
+numbers-more (u ∷ us) ws w = ap {B = List ℕ} (λ (l : List ℕ). u .number ∷ l) (numbers-more us ws w)
+
+numbers-requeued : (us : List Uncommitted) (ws : List Waiting) → numbers [] (map requeued us ++ ws) ≡ numbers us ws
+numbers-requeued [] ws = refl
+numbers-requeued (u ∷ us) ws = ap {B = List ℕ} (λ (l : List ℕ). u .number ∷ l) (numbers-requeued us ws)
+
+ready-snoc : (u : Uncommitted) (us : List Uncommitted) (v : Uncommitted) → ready (u ∷ us) ≡ true → lastFinished (u ∷ us) ≡ true → ready (u ∷ us ++ (v ∷ [])) ≡ true
+ready-snoc u [] v r f = both (finished (u .state)) true f refl
+ready-snoc u (x ∷ us) v r f =
+    both (finished (u .state)) (ready (x ∷ us ++ (v ∷ []))) (and-left (finished (u .state)) _ r) (ready-snoc x us v (and-right (finished (u .state)) _ r) f)
+
+ready-tail : (u : Uncommitted) (us : List Uncommitted) → ready (u ∷ us) ≡ true → ready us ≡ true
+ready-tail u [] r = refl
+ready-tail u (v ∷ us) r = and-right (finished (u .state)) (ready (v ∷ us)) r
+
+ready-same : (u v : Uncommitted) (us : List Uncommitted) → u .state ≡ v .state → ready (u ∷ us) ≡ true → ready (v ∷ us) ≡ true
+ready-same u v [] e r = refl
+ready-same u v (x ∷ us) e r = subst (λ (s : State). (finished s && ready (x ∷ us)) ≡ true) e r
+
+-- Drain
+
+-- take the first waiting one and run it
+placed-sound : (ct top : ℕ) (us : List Uncommitted) (w : Waiting) (ws : List Waiting) (cs : Cells) → mayTake us ≡ true → Sound ct top us (w ∷ ws)
+    → Sound ct top (placed us w (run (w .fragment) cs []) .uncommitted) ws × (length (placed us w (run (w .fragment) cs []) .answers) ≤ 1)
+unfolding placed
+placed-sound ct top [] w ws cs m s = go (multi (w .fragment)) refl
+  where
+    r : Ran
+    r = run (w .fragment) cs []
+
+    place : Bool → Place
+    place b = elim b [
+      | false ↦ record { uncommitted = []; answers = answer (w .number) 0 (run (w .fragment) cs [] .outcome) ∷ [] }
+      | true ↦ record { uncommitted = begun w (run (w .fragment) cs []) Sent ∷ []; answers = answer (w .number) 0 (run (w .fragment) cs [] .outcome) ∷ [] }
+    ]
+
+    go : (b : Bool) → multi (w .fragment) ≡ b → Sound ct top (place b .uncommitted) ws × (length (place b .answers) ≤ 1)
+    go false e = (
+      record {
+        cells = s .cells;
+        sixteen = omega arith;
+        sixtyFour = omega (arith, s .sixtyFour);
+        rises = rises-weaken 0 (w .number) top (numbers [] ws) (omega arith) (s .rises .1);
+        each = tt;
+        waiting = s .waiting .1;
+        ones = tt;
+        front = refl;
+        ready = refl;
+      },
+      omega arith,
+    )
+    go true e = (
+      record {
+        cells = s .cells;
+        sixteen = omega arith;
+        sixtyFour = omega (arith, s .sixtyFour);
+        rises = s .rises;
+        each = (begun-sound ct w cs Sent (s .waiting .0) refl refl (ap (λ (b : Bool). b || false) e), tt);
+        waiting = s .waiting .1;
+        ones = tt;
+        front = ap (λ (b : Bool). not b || false) e;
+        ready = refl;
+      },
+      omega arith,
+    )
+placed-sound ct top (u ∷ us) w ws cs m s = go (multi (w .fragment) && oneCoordinator (w .fragment .coordinator) (u ∷ us)) refl
+  where
+    less : length (u ∷ us) < depth
+    less = ltb-true (length (u ∷ us)) depth (and-left (ltb (length (u ∷ us)) depth) (lastFinished (u ∷ us)) m)
+
+    new : Reply → Uncommitted
+    new a = begun w (run (w .fragment) cs []) a
+
+    join : (a : Reply) → fits a ≡ true → isReply a ≡ true → (multi (w .fragment) || holds a) ≡ true → Sound ct top (u ∷ us ++ (begun w (run (w .fragment) cs []) a ∷ [])) ws
+    join a x r y = record {
+      cells = s .cells;
+      sixteen = omega (arith, less, length-append (u ∷ us) (begun w (run (w .fragment) cs []) a ∷ []));
+      sixtyFour = omega (arith, s .sixtyFour, length-append (u ∷ us) (begun w (run (w .fragment) cs []) a ∷ []));
+      rises = subst (λ (l : List ℕ). Rises 0 top l) (sym (numbers-snoc (u ∷ us) w ws (begun w (run (w .fragment) cs []) a) refl)) (s .rises);
+      each = all-append (SoundOne ct) (u ∷ us) (begun w (run (w .fragment) cs []) a ∷ []) (s .each) (begun-sound ct w cs a (s .waiting .0) x r y, tt);
+      waiting = s .waiting .1;
+      ones = all-append (λ (v : Uncommitted). v .ran ≤ 1) us (begun w (run (w .fragment) cs []) a ∷ []) (s .ones) (omega arith, tt);
+      front = s .front;
+      ready = ready-snoc u us (begun w (run (w .fragment) cs []) a) (s .ready) (and-right (ltb (length (u ∷ us)) depth) (lastFinished (u ∷ us)) m);
+    }
+
+    place : Bool → Place
+    place b = elim b [
+      | false ↦ record { uncommitted = u ∷ us ++ (begun w (run (w .fragment) cs []) (Held (run (w .fragment) cs [] .outcome)) ∷ []); answers = [] }
+      | true ↦ record { uncommitted = u ∷ us ++ (begun w (run (w .fragment) cs []) Sent ∷ []); answers = answer (w .number) (nearest 0 (u ∷ us)) (run (w .fragment) cs [] .outcome) ∷ [] }
+    ]
+
+    go : (b : Bool) → (multi (w .fragment) && oneCoordinator (w .fragment .coordinator) (u ∷ us)) ≡ b → Sound ct top (place b .uncommitted) ws × (length (place b .answers) ≤ 1)
+    go false e =
+        let x = ran-left ct (w .fragment) cs [] (s .waiting .0) refl in
+        let o : Outcome = run (w .fragment) cs [] .outcome in (
+          join (Held o) (both (leb (length (o .numbers)) mostOperations) (leb (o .place) mostOperations) (le-leb (length (o .numbers)) mostOperations (x .numbers)) (le-leb (o .place) mostOperations (x .place))) refl
+              (or-true (multi (w .fragment)) true refl),
+          omega arith,
+        )
+    go true e = (join Sent refl refl (ap (λ (b : Bool). b || false) (and-left (multi (w .fragment)) (oneCoordinator (w .fragment .coordinator) (u ∷ us)) e)), omega arith)
+
+pub drain-sound : (ct top : ℕ) (cs : Cells) (us : List Uncommitted) (ws : List Waiting) → Sound ct top us ws
+    → Sound ct top (drain cs us ws .uncommitted) (drain cs us ws .waiting) × (length (drain cs us ws .answers) ≤ length ws)
+unfolding drain
+drain-sound ct top cs us [] s = (s, omega arith)
+drain-sound ct top cs us (w ∷ ws) s = go (mayTake us) refl (λ cs′ us′ s′. drain-sound ct top cs′ us′ ws s′)
+  where
+    p : Place
+    p = placed us w (run (w .fragment) cs [])
+
+    q : Queues
+    q = drain (run (w .fragment) cs [] .cells) (placed us w (run (w .fragment) cs []) .uncommitted) ws
+
+    all : Bool → Queues
+    all b = elim b [ false ↦ record { cells = cs; uncommitted = us; waiting = w ∷ ws; answers = [] } | true ↦ sending (placed us w (run (w .fragment) cs []) .answers) q ]
+
+    go : (b : Bool) → mayTake us ≡ b
+        → ((cs′ : Cells) (us′ : List Uncommitted) → Sound ct top us′ ws → Sound ct top (drain cs′ us′ ws .uncommitted) (drain cs′ us′ ws .waiting) × (length (drain cs′ us′ ws .answers) ≤ length ws))
+        → Sound ct top (all b .uncommitted) (all b .waiting) × (length (all b .answers) ≤ suc (length ws))
+    go false e rec = (s, omega arith)
+    go true e rec =
+        let h = placed-sound ct top us w ws cs e s in
+        let x = rec (run (w .fragment) cs [] .cells) (placed us w (run (w .fragment) cs []) .uncommitted) (h .0) in
+        (x .0, omega (arith, h .1, x .1, length-append (placed us w (run (w .fragment) cs []) .answers) (q .answers)))
+
+-- Settling: what is behind the front, before the singles have settled
+record Half (ct top : ℕ) (us : List Uncommitted) (ws : List Waiting) : Type 0 where
+  cells : ct ≤ 4096
+  sixteen : length us ≤ depth
+  sixtyFour : length us + length ws ≤ mostLive
+  rises : Rises 0 top (numbers us ws)
+  each : All (SoundOne ct) us
+  waiting : All (Stored ct) ws
+  ones : All (λ (u : Uncommitted). u .ran ≤ 1) us
+  ready : ready us ≡ true
+
+half-tail : (ct top : ℕ) (u : Uncommitted) (us : List Uncommitted) (ws : List Waiting) → Half ct top (u ∷ us) ws → Half ct top us ws
+half-tail ct top u us ws h = record {
+  cells = h .cells;
+  sixteen = omega (arith, h .sixteen);
+  sixtyFour = omega (arith, h .sixtyFour);
+  rises = rises-weaken 0 (u .number) top (numbers us ws) (omega arith) (h .rises .1);
+  each = h .each .1;
+  waiting = h .waiting;
+  ones = h .ones .1;
+  ready = ready-tail u us (h .ready);
+}
+
+front-leaves : (ct top : ℕ) (u : Uncommitted) (us : List Uncommitted) (ws : List Waiting) → Sound ct top (u ∷ us) ws → Half ct top us ws
+front-leaves ct top u us ws s = record {
+  cells = s .cells;
+  sixteen = omega (arith, s .sixteen);
+  sixtyFour = omega (arith, s .sixtyFour);
+  rises = rises-weaken 0 (u .number) top (numbers us ws) (omega arith) (s .rises .1);
+  each = s .each .1;
+  waiting = s .waiting;
+  ones = s .ones;
+  ready = ready-tail u us (s .ready);
+}
+
+held-one : (u : Uncommitted) → length (heldBy u) ≤ 1
+held-one u = go (u .reply)
+  where
+    go : (a : Reply) → length {A = Answer} (elim a [ Held o ↦ answer (u .number) 0 o ∷ [] | Sent ↦ [] | NoReply ↦ [] ]) ≤ 1
+    go (Held o) = omega arith
+    go Sent = omega arith
+    go NoReply = omega arith
+
+sent-sound : (ct : ℕ) (u : Uncommitted) → multi (u .first) ≡ true → SoundOne ct u → SoundOne ct (sent u)
+sent-sound ct u e o = record {
+  eight = o .eight;
+  stored = o .stored;
+  some = o .some;
+  held = ap (λ (b : Bool). b || false) e;
+  fits = refl;
+  inside = o .inside;
+  few = o .few;
+  read = both (isState (u .state)) true (and-left (isState (u .state)) (isReply (u .reply)) (o .read)) refl;
+}
+
+settled-sound : (ct top : ℕ) (us : List Uncommitted) (ws : List Waiting) → Half ct top us ws → Sound ct top (settled us .uncommitted) ws × (length (settled us .answers) ≤ length us)
+unfolding settled
+settled-sound ct top [] ws h = (record { cells = h .cells; sixteen = h .sixteen; sixtyFour = h .sixtyFour; rises = h .rises; each = tt; waiting = h .waiting; ones = tt; front = refl; ready = refl }, omega arith)
+settled-sound ct top (u ∷ us) ws h = go (multi (u .first)) refl (settled-sound ct top us ws (half-tail ct top u us ws h))
+  where
+    place : Bool → Place
+    place b = elim b [
+      | true ↦ record { uncommitted = sent u ∷ us; answers = heldBy u }
+      | false ↦ record { uncommitted = settled us .uncommitted; answers = heldBy u ++ settled us .answers }
+    ]
+
+    go : (b : Bool) → multi (u .first) ≡ b → Sound ct top (settled us .uncommitted) ws × (length (settled us .answers) ≤ length us) → Sound ct top (place b .uncommitted) ws × (length (place b .answers) ≤ suc (length us))
+    go true e x = (
+      record {
+        cells = h .cells;
+        sixteen = h .sixteen;
+        sixtyFour = h .sixtyFour;
+        rises = h .rises;
+        each = (sent-sound ct u e (h .each .0), h .each .1);
+        waiting = h .waiting;
+        ones = h .ones .1;
+        front = ap (λ (b : Bool). not b || false) e;
+        ready = ready-same u (sent u) us refl (h .ready);
+      },
+      omega (arith, held-one u),
+    )
+    go false e x = (x .0, omega (arith, held-one u, x .1, length-append (heldBy u) (settled us .answers)))
+
+-- The four steps
+
+pub record Stays (ct top : ℕ) (q : Queues) : Type 0 where
+  pub sound : Sound ct top (q .uncommitted) (q .waiting)
+  pub most : length (q .answers) ≤ 64
+
+module _ (ct top : ℕ) (ws : List Waiting) (cs : Cells) where
+  pub joined-stays : (us : List Uncommitted) (n : ℕ) (f : Fragment) → Sound ct top us ws → top < n → storable ct f ≡ true → length us + length ws < mostLive → Stays ct n (joined n f cs us ws)
+  joined-stays us n f s k st l =
+      let w : Waiting = record { number = n; fragment = f } in
+      let x = drain-sound ct n cs us (ws ++ (w ∷ [])) (record {
+        cells = s .cells;
+        sixteen = s .sixteen;
+        sixtyFour = omega (arith, length-append ws (w ∷ []));
+        rises = subst (λ (z : List ℕ). Rises 0 n z) (sym (numbers-more us ws w)) (rises-more 0 top n (numbers us ws) k (s .rises));
+        each = s .each;
+        waiting = all-append (Stored ct) ws (w ∷ []) (s .waiting) (st, tt);
+        ones = s .ones;
+        front = s .front;
+        ready = s .ready;
+      }) in
+      record { sound = x .0; most = omega (arith, x .1, length-append ws (w ∷ [])) }
+
+  pub continued-stays : (u : Uncommitted) (us : List Uncommitted) (f : Fragment) → Sound ct top (u ∷ us) ws → storable ct f ≡ true → finished (u .state) ≡ false → u .ran < mostFragments
+      → Stays ct top (continued f cs u us ws)
+  continued-stays u (v ∷ us) f s st nf k = absurd (true≢false (sym (and-left (finished (u .state)) (ready (v ∷ us)) (s .ready)) ∙ nf))
+  continued-stays u [] f s st nf k =
+      let x = drain-sound ct top (run f cs (u .undo) .cells) (again u f (run f cs (u .undo)) ∷ []) ws (record {
+        cells = s .cells;
+        sixteen = s .sixteen;
+        sixtyFour = s .sixtyFour;
+        rises = s .rises;
+        each = (again-sound ct u f cs (s .each .0) st k (front-multi u (s .front)), tt);
+        waiting = s .waiting;
+        ones = tt;
+        front = ap (λ (b : Bool). not b || false) (front-multi u (s .front));
+        ready = refl;
+      }) in
+      record { sound = x .0; most = omega (arith, x .1, s .sixtyFour) }
+
+  pub committed-stays : (u : Uncommitted) (us : List Uncommitted) → Sound ct top (u ∷ us) ws → Stays ct top (committed cs (u ∷ us) ws)
+  committed-stays u us s =
+      let y = settled-sound ct top us ws (front-leaves ct top u us ws s) in
+      let x = drain-sound ct top cs (settled us .uncommitted) ws (y .0) in
+      record { sound = x .0; most = omega (arith, x .1, y .1, s .sixtyFour, length-append (settled us .answers) (drain cs (settled us .uncommitted) ws .answers)) }
+
+  stored-requeued : (us : List Uncommitted) → All (SoundOne ct) us → All (Stored ct) (map requeued us)
+  stored-requeued [] h = tt
+  stored-requeued (u ∷ us) h = (h .0 .stored, stored-requeued us (h .1))
+
+  pub aborted-stays : (u : Uncommitted) (us : List Uncommitted) → Sound ct top (u ∷ us) ws → Stays ct top (aborted cs (u ∷ us) ws)
+  aborted-stays u us s =
+      let h = front-leaves ct top u us ws s in
+      let x = drain-sound ct top _ [] (map requeued us ++ ws) (record {
+        cells = s .cells;
+        sixteen = omega arith;
+        sixtyFour = omega (arith, s .sixtyFour, length-append (map requeued us) ws, length-map us requeued);
+        rises = subst (λ (z : List ℕ). Rises 0 top z) (sym (numbers-requeued us ws)) (h .rises);
+        each = tt;
+        waiting = all-append (Stored ct) (map requeued us) ws (stored-requeued us (s .each .1)) (s .waiting);
+        ones = tt;
+        front = refl;
+        ready = refl;
+      }) in
+      record { sound = x .0; most = omega (arith, x .1, s .sixtyFour, length-append (map requeued us) ws, length-map us requeued) }

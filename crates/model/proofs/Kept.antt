@@ -1,0 +1,201 @@
+-- Every call keeps a sound record sound and sends at most 64 answers; so no call from a fresh start returns 1. A start that was refused is
+-- refused by 3 for ever.
+use Prim.Native.Nat.{ℕ, zero, suc, _+_, _≤_, _<_}
+use native.Mathlib.Omega.{arith}
+use borrow.Author.Tests.{ltb-true, leb-false, le-leb, le-ltb, eqb-true, ne-eqb, not-false, ltb-false}
+use mathlib.Core.Path.{_≡_, refl, sym, ap, _∙_, subst}
+use mathlib.Core.Bool.{Bool, true, false, not, _&&_, _||_, true≢false}
+use mathlib.Core.List.{List, [], _∷_}
+use lib.Dec.{leb, ltb, eqb}
+use lib.ListN.{length, drop}
+use Rattle.model.specs.Limits.{mostCells, mostFragments, mostLive, leastRoom}
+use Rattle.model.specs.Operations.{Cells, pick}
+use Rattle.model.specs.Transactions.{finished, Uncommitted, Waiting, Engine, numbers}
+use Rattle.model.specs.Steps.{Queues, joined, continued, arrived}
+use Rattle.model.specs.Refusals.{Request, Arrive, Commit, Abort, request, formed, blank, formedEvent, inside, storable, sound, Call, live, new, isFront, rows, firstOf, refusal, taken, largestAfter, respond, step, Started, start, empty}
+use Rattle.model.specs.Demand.{Run, onward, runs, fresh}
+use Rattle.model.specs.declared.Event.{Event}
+use Rattle.model.specs.declared.Fragment.{Fragment}
+use Rattle.model.proofs.Chain.{All}
+use Rattle.model.proofs.Passing.{Passed, passed, front-or-new, front-if-known, and-if, and-unless}
+use Rattle.model.proofs.Tests.{both, and-right, or-left}
+use Rattle.model.proofs.Sound.{SoundEngine, Sound, sound-parts, parts-sound}
+use Rattle.model.proofs.Keeping.{Stays, joined-stays, continued-stays, committed-stays, aborted-stays, rises-weaken}
+
+-- a fragment that was accepted could be stored
+arrives-storable : (e : Engine) (c : Call) → eqb (c .event .kind) 1 ≡ true → Passed e c → storable (e .count) (c .event .fragment) ≡ true
+arrives-storable e c a p =
+    both (formed f) (inside (e .count) f)
+    (go (eqb (c .event .kind) 1) ((eqb (c .event .kind) 2 || eqb (c .event .kind) 3) && blank f) a
+    (λ z. eqb-true-1 (c .event .kind) a z) (and-right (leb 1 (c .event .number)) _ (not-false (formedEvent (c .event)) (p .four))))
+    (not-false (inside (e .count) f) (and-if (eqb (c .event .kind) 1) (not (inside (e .count) f)) a (p .five)))
+  where
+    f : Fragment
+    f = c .event .fragment
+
+    -- kind 1 is neither 2 nor 3
+    eqb-true-1 : (k : ℕ) → eqb k 1 ≡ true → ((eqb k 2 || eqb k 3) && blank f) ≡ true → ⊥
+    eqb-true-1 k a z =
+        let one : k ≡ 1 = eqb-true k 1 a in
+        true≢false (sym z ∙ ap (λ (n : ℕ). (eqb n 2 || eqb n 3) && blank f) one)
+
+    go : (x y : Bool) → x ≡ true → (y ≡ true → ⊥) → (x && formed f || y) ≡ true → formed f ≡ true
+    go true y e n h = or (formed f) y n h
+      where
+        or : (b y : Bool) → (y ≡ true → ⊥) → (b || y) ≡ true → b ≡ true
+        or true y n h = refl
+        or false y n h = absurd (n h)
+    go false y e n h = absurd (true≢false (sym e))
+
+module _ (ct top : ℕ) (ws : List Waiting) (cs : Cells) where
+  abbrev engineOf : List Uncommitted → Engine
+  engineOf us = record { count = ct; largest = top; uncommitted = us; waiting = ws }
+
+  arrive-stays : (us : List Uncommitted) (c : Call) → eqb (c .event .kind) 1 ≡ true → Sound ct top us ws → Passed (engineOf us) c
+      → Stays ct (largestAfter (Arrive (c .event .number) (c .event .fragment)) (engineOf us)) (arrived (c .event .number) (c .event .fragment) cs us ws)
+  arrive-stays us c a s p = go us s p
+    where
+      n : ℕ
+      n = c .event .number
+
+      f : Fragment
+      f = c .event .fragment
+
+      joins : (vs : List Uncommitted) → Sound ct top vs ws → Passed (engineOf vs) c → ltb top n ≡ true → Stays ct (elim (ltb top n) [ true ↦ n | false ↦ top ]) (joined n f cs vs ws)
+      joins vs s q e =
+          subst (λ (t : ℕ). Stays ct t (joined n f cs vs ws)) (sym (ap {B = ℕ} (λ (b : Bool). elim b [ true ↦ n | false ↦ top ]) e))
+          (joined-stays ct top ws cs vs n f s (ltb-true top n e) (arrives-storable (engineOf vs) c a q)
+          (leb-false mostLive (length vs + length ws) (and-if (eqb (c .event .kind) 1 && ltb top n) (leb mostLive (length vs + length ws)) (both (eqb (c .event .kind) 1) (ltb top n) a e) (q .ten))))
+
+      go : (vs : List Uncommitted) → Sound ct top vs ws → Passed (engineOf vs) c → Stays ct (elim (ltb top n) [ true ↦ n | false ↦ top ]) (arrived n f cs vs ws)
+      go [] s p = joins [] s p (front-or-new (live n (engineOf [])) (ltb top n) false (p .six) (p .seven) refl)
+      go (u ∷ vs) s p = or (eqb (u .number) n) refl
+        where
+          at : (q : Uncommitted → Bool) → eqb (u .number) n ≡ true → (eqb (c .event .kind) 1 && (eqb (u .number) n && q u)) ≡ false → q u ≡ false
+          at q e h = and-if (eqb (u .number) n) (q u) e (and-if (eqb (c .event .kind) 1) (eqb (u .number) n && q u) a h)
+
+          or : (b : Bool) → eqb (u .number) n ≡ b → Stays ct (elim (ltb top n) [ true ↦ n | false ↦ top ]) (elim b [ false ↦ joined n f cs (u ∷ vs) ws | true ↦ continued f cs u vs ws ])
+          or false e = joins (u ∷ vs) s p (front-or-new (live n (engineOf (u ∷ vs))) (ltb top n) (eqb (u .number) n) (p .six) (p .seven) e)
+          or true e =
+              let same : u .number ≡ n = eqb-true (u .number) n e in
+              let old : n ≤ top = subst (λ (m : ℕ). m ≤ top) same (rises-top (u .number) (numbers vs ws) (s .rises .1)) in
+              subst (λ (t : ℕ). Stays ct t (continued f cs u vs ws)) (sym (ap {B = ℕ} (λ (b : Bool). elim b [ true ↦ n | false ↦ top ]) (le-ltb top n old)))
+              (continued-stays ct top ws cs u vs f s (arrives-storable (engineOf (u ∷ vs)) c a p)
+              (at (λ u. finished (u .state)) e (p .eight)) (leb-false mostFragments (u .ran) (at (λ u. leb mostFragments (u .ran)) e (p .eleven))))
+            where
+              rises-top : (m : ℕ) (l : List ℕ) → Rattle.model.specs.Demand.Rises m top l → m ≤ top
+              rises-top m [] h = h
+              rises-top m (x ∷ l) h = let y : x ≤ top = rises-top x l (h .1) in omega (arith, h .0)
+
+  decides-front : (us : List Uncommitted) (c : Call) → eqb (c .event .kind) 1 ≡ false → Passed (engineOf us) c → isFront (c .event .number) (engineOf us) ≡ true
+  decides-front us c a p =
+      front-if-known (live (c .event .number) (engineOf us)) (new (c .event .number) (engineOf us)) (isFront (c .event .number) (engineOf us)) (p .six) (p .seven) (and-unless (eqb (c .event .kind) 1) _ a (p .twelve))
+
+  commit-stays : (us : List Uncommitted) (c : Call) → eqb (c .event .kind) 1 ≡ false → Sound ct top us ws → Passed (engineOf us) c → Stays ct top (taken (Commit (c .event .number)) (engineOf us) cs)
+  commit-stays [] c a s p = absurd (true≢false (sym (decides-front [] c a p)))
+  commit-stays (u ∷ us) c a s p = committed-stays ct top ws cs u us s
+
+  abort-stays : (us : List Uncommitted) (c : Call) → eqb (c .event .kind) 1 ≡ false → Sound ct top us ws → Passed (engineOf us) c → Stays ct top (taken (Abort (c .event .number)) (engineOf us) cs)
+  abort-stays [] c a s p = absurd (true≢false (sym (decides-front [] c a p)))
+  abort-stays (u ∷ us) c a s p = aborted-stays ct top ws cs u us s
+
+accepted-stays : (e : Engine) (c : Call) → SoundEngine e → Passed e c → Stays (e .count) (largestAfter (request (c .event)) e) (taken (request (c .event)) e (c .lent))
+accepted-stays e c s p = go (eqb (c .event .kind) 1) refl
+  where
+    either : Bool → Request
+    either b = elim b [ true ↦ Commit (c .event .number) | false ↦ Abort (c .event .number) ]
+
+    decide : eqb (c .event .kind) 1 ≡ false → (b : Bool) → Stays (e .count) (largestAfter (either b) e) (taken (either b) e (c .lent))
+    decide a true = commit-stays (e .count) (e .largest) (e .waiting) (c .lent) (e .uncommitted) c a s p
+    decide a false = abort-stays (e .count) (e .largest) (e .waiting) (c .lent) (e .uncommitted) c a s p
+
+    asks : Bool → Request
+    asks b = elim b [ true ↦ Arrive (c .event .number) (c .event .fragment) | false ↦ either (eqb (c .event .kind) 2) ]
+
+    go : (b : Bool) → eqb (c .event .kind) 1 ≡ b → Stays (e .count) (largestAfter (asks b) e) (taken (asks b) e (c .lent))
+    go true a = arrive-stays (e .count) (e .largest) (e .waiting) (c .lent) (e .uncommitted) c a s p
+    go false a = decide a (eqb (c .event .kind) 2)
+
+-- Kept by every call, from every sound record
+pub record StepKeeps (e : Engine) (c : Call) : Type 0 where
+  pub sound : sound (step e c .engine) ≡ true
+  pub most : length (step e c .answers) ≤ 64
+
+pub step-keeps : (e : Engine) (c : Call) → sound e ≡ true → StepKeeps e c
+unfolding step
+step-keeps e c h =
+    let x = go (refusal e c) refl in
+    record { sound = x .0; most = x .1 }
+  where
+    go : (k : ℕ) → refusal e c ≡ k → (sound (respond k e c .engine) ≡ true) × (length (respond k e c .answers) ≤ 64)
+    go zero q = let x = accepted-stays e c (sound-parts e h) (passed e c q) in (parts-sound (respond zero e c .engine) (x .sound), x .most)
+    go (suc k) q = (h, omega arith)
+
+-- From a fresh start
+
+empty-sound : (n : ℕ) → n ≤ mostCells → sound (empty n) ≡ true
+empty-sound n k =
+    parts-sound (empty n) (record { cells = k; sixteen = omega arith; sixtyFour = omega arith; rises = omega arith; each = tt; waiting = tt; ones = tt; front = refl; ready = refl })
+
+pub start-sound : (n : ℕ) → sound (start n .engine) ≡ true
+unfolding start
+start-sound n = go (eqb n 0 || ltb mostCells n) refl
+  where
+    go : (b : Bool) → (eqb n 0 || ltb mostCells n) ≡ b → sound (pick {A = Started} b (record { number = 3; engine = empty 0 }) (record { number = 0; engine = empty n }) .engine) ≡ true
+    go true e = empty-sound 0 (omega arith)
+    go false e = empty-sound n (ltb-false mostCells n (Rattle.model.proofs.Tests.or-right (eqb n 0) (ltb mostCells n) e))
+
+pub runs-sound : (cs : Cells) (calls : List Call) → sound (runs (fresh cs) calls .engine) ≡ true
+runs-sound cs calls = go (fresh cs) calls (start-sound (length cs))
+  where
+    go : (r : Run) (calls : List Call) → sound (r .engine) ≡ true → sound (runs r calls .engine) ≡ true
+    go r [] h = h
+    go r (c ∷ calls) h = go (onward r c) calls (step-keeps (r .engine) c h .sound)
+
+-- the returned number is the refusal
+pub step-number : (e : Engine) (c : Call) → step e c .number ≡ refusal e c
+unfolding step
+step-number e c = go (refusal e c)
+  where
+    go : (k : ℕ) → respond k e c .number ≡ k
+    go zero = refl
+    go (suc k) = refl
+
+-- a sound record is not refused by 1: every row behind the first has a larger number
+pub never-one : (e : Engine) (c : Call) → sound e ≡ true → step e c .number ≡ 1 → ⊥
+unfolding refusal rows
+never-one e c h z = above (behind-first (rows e c)) (omega arith)
+    (sym (ap {B = ℕ} (λ (b : Bool). elim (not b) [ true ↦ 1 | false ↦ firstOf (behind-first (rows e c)) ]) h) ∙ sym (step-number e c) ∙ z)
+  where
+    behind-first : List (ℕ × Bool) → List (ℕ × Bool)
+    behind-first [] = []
+    behind-first (r ∷ rs) = rs
+
+    above : (rs : List (ℕ × Bool)) → All (λ (r : ℕ × Bool). 1 < r .0) rs → firstOf rs ≡ 1 → ⊥
+    above [] p k = omega arith
+    above (r ∷ rs) p k = go (r .1) (λ j. above rs (p .1) j) k
+      where
+        go : (b : Bool) → (firstOf rs ≡ 1 → ⊥) → _≡_ {A = ℕ} (elim b [ true ↦ r .0 | false ↦ firstOf rs ]) 1 → ⊥
+        go true f j = let x : 1 < r .0 = p .0 in omega arith
+        go false f j = f j
+
+-- "From a fresh start no call returns 1."
+pub fresh-never-one : (cs : Cells) (calls : List Call) (c : Call) → step (runs (fresh cs) calls .engine) c .number ≡ 1 → ⊥
+fresh-never-one cs calls c z = never-one (runs (fresh cs) calls .engine) c (runs-sound cs calls) z
+
+-- "a record with 0 cells, which every later call with enough room refuses by 3"
+pub not-started : (c : Call) → leastRoom ≤ length (c .room) → step (empty 0) c .number ≡ 3
+unfolding refusal rows
+not-started c k =
+    step-number (empty 0) c
+    ∙ ap {B = ℕ} (λ (b : Bool). elim (not b) [ true ↦ 1 | false ↦ elim (ltb (length (c .room)) leastRoom) [ true ↦ 2 | false ↦ none ] ]) (empty-sound 0 (omega arith))
+    ∙ ap {B = ℕ} (λ (b : Bool). elim b [ true ↦ 2 | false ↦ none ]) (le-ltb (length (c .room)) leastRoom k)
+    ∙ go (eqb (length (c .lent)) 0)
+  where
+    -- 3 and the rows behind it
+    none : ℕ
+    none = firstOf (drop 2 (rows (empty 0) c))
+
+    go : (b : Bool) → _≡_ {A = ℕ} (elim (b || not b) [ true ↦ 3 | false ↦ firstOf (drop 3 (rows (empty 0) c)) ]) 3
+    go true = refl
+    go false = refl

@@ -1,0 +1,14 @@
+pub mod Cases
+pub mod Undoing
+pub mod Logs
+pub mod Chain
+pub mod Draining
+pub mod Settling
+pub mod Passing
+pub mod Demanded
+pub mod Tests
+pub mod Sound
+pub mod Keeping
+pub mod Kept
+pub mod Running
+pub mod Codes

@@ -1,0 +1,89 @@
+-- What an accepted call has passed: none of the fourteen rows applies.
+use Prim.Native.Nat.{ℕ, zero, suc, _+_, _<_}
+use native.Mathlib.Omega.{arith}
+use mathlib.Core.Path.{_≡_, refl, sym, _∙_}
+use mathlib.Core.Bool.{Bool, true, false, not, _&&_, _||_, true≢false}
+use mathlib.Core.List.{List, [], _∷_}
+use lib.Dec.{leb, ltb, eqb}
+use lib.ListN.{length}
+use Rattle.model.specs.Limits.{mostFragments, mostLive, leastRoom}
+use Rattle.model.specs.Operations.{multi}
+use Rattle.model.specs.Transactions.{finished, failed, Engine}
+use Rattle.model.specs.Refusals.{sound, formedEvent, inside, Call, live, new, isFront, atFront, rows, firstOf, refusal, respond, step}
+use Rattle.model.proofs.Chain.{All}
+
+pub record Passed (e : Engine) (c : Call) : Type 0 where
+  pub one : not (sound e) ≡ false
+  pub two : ltb (length (c .room)) leastRoom ≡ false
+  pub three : (eqb (length (c .lent)) 0 || not (eqb (length (c .lent)) (e .count))) ≡ false
+  pub four : not (formedEvent (c .event)) ≡ false
+  pub five : (eqb (c .event .kind) 1 && not (inside (e .count) (c .event .fragment))) ≡ false
+  pub six : (not (live (c .event .number) e) && not (new (c .event .number) e)) ≡ false
+  pub seven : (live (c .event .number) e && not (isFront (c .event .number) e)) ≡ false
+  pub eight : (eqb (c .event .kind) 1 && atFront (c .event .number) (λ u. finished (u .state)) e) ≡ false
+  pub nine :
+      (eqb (c .event .kind) 1 && atFront (c .event .number) (λ u. not (multi (c .event .fragment)) || not (eqb (u .first .coordinator) (c .event .fragment .coordinator))) e) ≡ false
+  pub ten : (eqb (c .event .kind) 1 && new (c .event .number) e && leb mostLive (length (e .uncommitted) + length (e .waiting))) ≡ false
+  pub eleven : (eqb (c .event .kind) 1 && atFront (c .event .number) (λ u. leb mostFragments (u .ran)) e) ≡ false
+  pub twelve : (not (eqb (c .event .kind) 1) && new (c .event .number) e) ≡ false
+  pub thirteen : (eqb (c .event .kind) 2 && atFront (c .event .number) (λ u. not (finished (u .state))) e) ≡ false
+  pub fourteen : (eqb (c .event .kind) 2 && atFront (c .event .number) (λ u. failed (u .state)) e) ≡ false
+
+none-applies : (rs : List (ℕ × Bool)) → All (λ (r : ℕ × Bool). 0 < r .0) rs → firstOf rs ≡ 0 → All (λ (r : ℕ × Bool). r .1 ≡ false) rs
+none-applies [] p h = tt
+none-applies (r ∷ rs) p h = go (r .1) refl (λ k. none-applies rs (p .1) k) h
+  where
+    go : (b : Bool) → r .1 ≡ b → (firstOf rs ≡ 0 → All (λ (r : ℕ × Bool). r .1 ≡ false) rs) → _≡_ {A = ℕ} (elim b [ true ↦ r .0 | false ↦ firstOf rs ]) 0 → (r .1 ≡ false) × All (λ (r : ℕ × Bool). r .1 ≡ false) rs
+    go true e f k = let x : 0 < r .0 = p .0 in absurd (omega arith)
+    go false e f k = (e, f k)
+
+pub passed : (e : Engine) (c : Call) → refusal e c ≡ 0 → Passed e c
+unfolding refusal rows
+passed e c h =
+    let p = none-applies (rows e c) (omega arith) h in
+    record {
+      one = p .0;
+      two = p .1 .0;
+      three = p .1 .1 .0;
+      four = p .1 .1 .1 .0;
+      five = p .1 .1 .1 .1 .0;
+      six = p .1 .1 .1 .1 .1 .0;
+      seven = p .1 .1 .1 .1 .1 .1 .0;
+      eight = p .1 .1 .1 .1 .1 .1 .1 .0;
+      nine = p .1 .1 .1 .1 .1 .1 .1 .1 .0;
+      ten = p .1 .1 .1 .1 .1 .1 .1 .1 .1 .0;
+      eleven = p .1 .1 .1 .1 .1 .1 .1 .1 .1 .1 .0;
+      twelve = p .1 .1 .1 .1 .1 .1 .1 .1 .1 .1 .1 .0;
+      thirteen = p .1 .1 .1 .1 .1 .1 .1 .1 .1 .1 .1 .1 .0;
+      fourteen = p .1 .1 .1 .1 .1 .1 .1 .1 .1 .1 .1 .1 .1 .0;
+    }
+
+-- a call that returned 0 was refused by none
+pub took : (e : Engine) (c : Call) → step e c .number ≡ 0 → refusal e c ≡ 0
+unfolding step
+took e c h = go (refusal e c) refl h
+  where
+    go : (k : ℕ) → refusal e c ≡ k → respond k e c .number ≡ 0 → refusal e c ≡ 0
+    go zero q x = q
+    go (suc k) q x = absurd (omega arith)
+
+-- neither 6 nor 7 applies: the front or a new one
+pub front-or-new : (live new front : Bool) → (not live && not new) ≡ false → (live && not front) ≡ false → front ≡ false → new ≡ true
+front-or-new true new true h k e = absurd (true≢false e)
+front-or-new true new false h k e = absurd (true≢false k)
+front-or-new false true front h k e = refl
+front-or-new false false front h k e = absurd (true≢false h)
+
+pub front-if-known : (live new front : Bool) → (not live && not new) ≡ false → (live && not front) ≡ false → new ≡ false → front ≡ true
+front-if-known true new true h k e = refl
+front-if-known true new false h k e = absurd (true≢false k)
+front-if-known false true front h k e = absurd (true≢false e)
+front-if-known false false front h k e = absurd (true≢false h)
+
+pub and-if : (a b : Bool) → a ≡ true → (a && b) ≡ false → b ≡ false
+and-if true b e h = h
+and-if false b e h = absurd (true≢false (sym e))
+
+pub and-unless : (a b : Bool) → a ≡ false → (not a && b) ≡ false → b ≡ false
+and-unless true b e h = absurd (true≢false e)
+and-unless false b e h = h

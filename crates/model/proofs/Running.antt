@@ -1,0 +1,53 @@
+-- A later fragment, run by itself and then joined with what its transaction owned before.
+use Prim.Native.Nat.{ℕ, suc, _<_}
+use native.Mathlib.Omega.{arith}
+use borrow.Author.Tests.{ne-eqb}
+use mathlib.Core.Path.{_≡_, refl, sym, ap, _∙_}
+use mathlib.Core.Bool.{Bool, true, false}
+use mathlib.Core.List.{List, [], _∷_, _++_, append-assoc, append-nil}
+use lib.Dec.{eqb}
+use Rattle.model.specs.Operations.{Cells, content, operate, put, writes, operations}
+use Rattle.model.specs.Steps.{undone, noted, Ran, runFrom, run}
+use Rattle.model.specs.declared.Op.{Op}
+use Rattle.model.specs.declared.Fragment.{Fragment}
+use Rattle.model.specs.declared.Undo.{Undo}
+use Rattle.model.specs.declared.Did.{Did}
+use Rattle.model.specs.declared.Did.the-variants.{Number, Fails}
+use Rattle.model.proofs.Undoing.{undone-append}
+
+-- with the earlier entries us: kept where nothing failed, undone too where something did
+abbrev pub joinedBy : Bool → List Undo → Ran → Ran
+joinedBy true us r = record { cells = r .cells; outcome = r .outcome; undo = us ++ r .undo }
+joinedBy false us r = record { cells = undone us (r .cells); outcome = r .outcome; undo = [] }
+
+abbrev pub withEarlier : List Undo → Ran → Ran
+withEarlier us r = joinedBy (eqb (r .outcome .place) 0) us r
+
+noted-earlier : (o : Op) (cs : Cells) (us own : List Undo) → noted o cs (us ++ own) ≡ us ++ noted o cs own
+noted-earlier o cs us own = go (writes (o .code))
+  where
+    go : (w : Bool) → elim w as (λ _. List Undo) [ true ↦ (us ++ own) ++ (record { cell = o .cell; old = content o cs } ∷ []) | false ↦ us ++ own ]
+        ≡ us ++ (elim w as (λ _. List Undo) [ true ↦ own ++ (record { cell = o .cell; old = content o cs } ∷ []) | false ↦ own ])
+    go true = append-assoc us own (record { cell = o .cell; old = content o cs } ∷ [])
+    go false = refl
+
+from-earlier : (us : List Undo) (p : ℕ) (os : List Op) (cs : Cells) (ns : List ℕ) (own : List Undo) → 0 < p → runFrom p os cs ns (us ++ own) ≡ withEarlier us (runFrom p os cs ns own)
+unfolding runFrom
+from-earlier us p [] cs ns own h = refl
+from-earlier us p (o ∷ os) cs ns own h =
+    elim (operate o cs)
+    as (λ d. by (us ++ own) d ≡ withEarlier us (by own d)) [
+      | Number y ↦ ap (runFrom (suc p) os (put o y cs) (ns ++ (y ∷ []))) (noted-earlier o cs us own) ∙ from-earlier us (suc p) os (put o y cs) (ns ++ (y ∷ [])) (noted o cs own) (omega arith)
+      | Fails ↦
+          (λ i. record { cells = undone-append us own cs i; outcome = record { place = p; numbers = [] }; undo = [] })
+          ∙ ap {B = Ran} (λ (b : Bool). joinedBy b us (record { cells = undone own cs; outcome = record { place = p; numbers = [] }; undo = [] })) (sym (ne-eqb p 0 (λ e. omega arith)))
+    ]
+  where
+    by : List Undo → Did → Ran
+    by vs d = elim d [
+      | Number y ↦ runFrom (suc p) os (put o y cs) (ns ++ (y ∷ [])) (noted o cs vs)
+      | Fails ↦ record { cells = undone vs cs; outcome = record { place = p; numbers = [] }; undo = [] }
+    ]
+
+pub run-earlier : (f : Fragment) (cs : Cells) (us : List Undo) → run f cs us ≡ withEarlier us (run f cs [])
+run-earlier f cs us = ap (runFrom 1 (operations f) cs []) (sym (append-nil us)) ∙ from-earlier us 1 (operations f) cs [] [] (omega arith)

@@ -1,0 +1,340 @@
+-- Commit, abort and arrivals keep the invariant.
+use Prim.Native.Nat.{ℕ, zero, suc, _+_, _≤_, _<_}
+use native.Mathlib.Omega.{arith}
+use mathlib.Core.Path.{_≡_, refl, sym, ap, _∙_, subst, subst₂}
+use mathlib.Core.Bool.{Bool, true, false, true≢false}
+use mathlib.Core.Logic.{_⊎_, inl, inr}
+use mathlib.Core.List.{List, [], _∷_, _++_, map, append-assoc, append-nil, List·Memᴰ, List·Memᴰ·head, Memᴰ·append-right}
+use lib.ListN.{length}
+use Rattle.model.specs.Operations.{Cells, Outcome, multi, told}
+use Rattle.model.specs.Transactions.{Reply, Held, Sent, NoReply, Uncommitted, Waiting, Answer, answer, undoList, finished}
+use Rattle.model.specs.Steps.{undone, Ran, run, again, requeued, Place, drain, heldBy, sent, settled, Queues, sending, joined, continued, committed, aborted}
+use Rattle.model.specs.Serial.{Tx, Decision, Open, Committed, Aborted, attempt, effect, serial}
+use Rattle.model.specs.Demand.{Log, Standing, Settles, Gone, Undecided, standing, settledOf, Gives, at, extended, decided}
+use Rattle.model.specs.declared.Fragment.{Fragment}
+use Rattle.model.proofs.Logs.{InOrder, rises-at, rises-put, rises-more, rises-below, gives-at, Past, Closed, closed-snoc, past-settles, past-gone, at-at, Grows, grows-more, grows-put}
+use Rattle.model.proofs.Chain.{asTx, txOf, lives, Entry, Chain, ButLast, FrontMulti, Pend, InPast, Followed, All, all-map, all-append, Inv, chain-undone, lives-requeued, ready-tail, again-entry, sent-is-not-held, followed-idle, in-past, pend-multi-leaves, pend-single-leaves, pend-front, pend-alone}
+use Rattle.model.proofs.Draining.{Plain, After, drain-inv, past-if}
+
+-- an answer without a dependence, and right
+abbrev pub Sure : Cells → Log → Answer → Type 0
+Sure cs₀ l a = (a .dependence ≡ 0) × Gives cs₀ (a .number) l (a .outcome)
+
+pub map-append : (ws vs : List Waiting) → map asTx (ws ++ vs) ≡ map asTx ws ++ map asTx vs
+map-append [] vs = refl
+map-append (w ∷ ws) vs = ap {B = Log} (λ (x : Log). asTx w ∷ x) (map-append ws vs)
+
+-- in the midst of settling: k, the last multi that left, is in the past, and a single may be first
+pub record Mid (cs₀ : Cells) (l : Log) (cs : Cells) (k : ℕ) (us : List Uncommitted) (ws : List Waiting) (as′ : List Answer) : Type 0 where
+  pub past : Log
+  pub base : Cells
+  pub split : l ≡ past ++ (lives [] us ++ map asTx ws)
+  pub closed : Closed past
+  pub based : serial (settledOf past) cs₀ ≡ base
+  pub chain : Chain base [] us cs
+  pub ready : ButLast us
+  pub gone : InPast k past
+  pub followed : All (Followed k past base [] us) as′
+
+same-past : (a k : ℕ) (P : Log) → a ≡ k → InPast k P → InPast a P
+same-past a k P e i = (i .0, i .1, i .2 ∙ sym e)
+
+ready-sent : (u : Uncommitted) (us : List Uncommitted) → ButLast (u ∷ us) → ButLast (sent u ∷ us)
+ready-sent u [] r = tt
+ready-sent u (v ∷ us) r = r
+
+module _ (cs₀ : Cells) (top : ℕ) (l : Log) (rises : InOrder 0 top l) (cs : Cells) (k : ℕ) (ws : List Waiting) (as′ : List Answer) where
+  held-sure : (u : Uncommitted) (us : List Uncommitted) → Mid cs₀ l cs k (u ∷ us) ws as′ → All (Sure cs₀ l) (heldBy u)
+  held-sure u us m = go (u .reply) refl
+    where
+      go : (a : Reply) → u .reply ≡ a → All (Sure cs₀ l) (elim a [ Held o ↦ answer (u .number) 0 o ∷ [] | Sent ↦ [] | NoReply ↦ [] ])
+      go (Held o) e = (
+        (
+          refl,
+          gives-at cs₀ top l (m .past) (txOf [] u) (lives [] us ++ map asTx ws) o rises (m .split)
+              (m .chain .0 .says o e ∙ ap (λ (x : Cells). told (attempt (txOf [] u) x)) (sym (m .based))),
+        ),
+        tt,
+      )
+      go Sent e = tt
+      go NoReply e = tt
+
+  -- a multi is first: the new front
+  new-front : (u : Uncommitted) (us : List Uncommitted) → multi (u .first) ≡ true → Mid cs₀ l cs k (u ∷ us) ws as′ → Inv cs₀ l cs (sent u ∷ us) ws as′
+  new-front u us e m = record {
+    past = m .past;
+    base = m .base;
+    more = [];
+    split = m .split;
+    closed = m .closed;
+    based = m .based;
+    chain = (record { back = m .chain .0 .back; fine = m .chain .0 .fine; says = λ o h. sent-is-not-held o _ h }, m .chain .1);
+    ready = ready-sent u us (m .ready);
+    multi = e;
+    followed = all-map (Followed k (m .past) (m .base) [] (u ∷ us)) (Followed 0 (m .past) (m .base) [] (sent u ∷ us)) (λ a t h. go a (t h)) as′ (m .followed);
+  }
+    where
+      go : (a : Answer) → Pend k (m .base) [] (u ∷ us) a ⊎ InPast (a .dependence) (m .past) → Pend 0 (m .base) [] (sent u ∷ us) a ⊎ InPast (a .dependence) (m .past)
+      go a (inr i) = inr i
+      go a (inl p) = here (pend-front k (m .base) [] u us a e p)
+        where
+          here : (a .dependence ≡ k) ⊎ Pend 0 (m .base) [] (sent u ∷ us) a → Pend 0 (m .base) [] (sent u ∷ us) a ⊎ InPast (a .dependence) (m .past)
+          here (inl z) = inr (same-past (a .dependence) k (m .past) z (m .gone))
+          here (inr x) = inl x
+
+  -- a single is first: it settles
+  single-settles : (u : Uncommitted) (us : List Uncommitted) → multi (u .first) ≡ false → Mid cs₀ l cs k (u ∷ us) ws as′ → Mid cs₀ l cs k us ws as′
+  single-settles u us e m = record {
+    past = m .past ++ txOf [] u ∷ [];
+    base = effect (txOf [] u) (m .base);
+    split = m .split ∙ sym (append-assoc (m .past) (txOf [] u ∷ []) (lives [] us ++ map asTx ws));
+    closed = closed-snoc (m .past) (txOf [] u) (m .closed) (past-if (standing (txOf [] u)) st);
+    based = past-settles (m .past) (txOf [] u) cs₀ (m .closed) st ∙ ap (effect (txOf [] u)) (m .based);
+    chain = m .chain .1;
+    ready = ready-tail u us (m .ready);
+    gone = in-past k (m .past) (txOf [] u ∷ []) (m .gone);
+    followed = all-map (Followed k (m .past) (m .base) [] (u ∷ us)) (Followed k (m .past ++ txOf [] u ∷ []) (effect (txOf [] u) (m .base)) [] us) (λ a t h. go a (t h)) as′ (m .followed);
+  }
+    where
+      st : standing (txOf [] u) ≡ Settles
+      st = ap {B = Standing} (λ (b : Bool). elim b [ false ↦ Settles | true ↦ Undecided ]) e
+
+      go : (a : Answer) → Pend k (m .base) [] (u ∷ us) a ⊎ InPast (a .dependence) (m .past)
+          → Pend k (effect (txOf [] u) (m .base)) [] us a ⊎ InPast (a .dependence) (m .past ++ txOf [] u ∷ [])
+      go a (inr i) = inr (in-past (a .dependence) (m .past) (txOf [] u ∷ []) i)
+      go a (inl p) = here (pend-single-leaves k (m .base) [] u us a e p)
+        where
+          here : (a .dependence ≡ k) ⊎ Pend k (effect (txOf [] u) (m .base)) [] us a → Pend k (effect (txOf [] u) (m .base)) [] us a ⊎ InPast (a .dependence) (m .past ++ txOf [] u ∷ [])
+          here (inl z) = inr (in-past (a .dependence) (m .past) (txOf [] u ∷ []) (same-past (a .dependence) k (m .past) z (m .gone)))
+          here (inr x) = inl x
+
+  -- "Then singles settle and are answered from the front of the queue until a multi is first."
+  pub settled-inv : (us : List Uncommitted) → Mid cs₀ l cs k us ws as′ → Inv cs₀ l cs (settled us .uncommitted) ws as′ × All (Sure cs₀ l) (settled us .answers)
+  unfolding settled
+  settled-inv [] m = (
+    record {
+      past = m .past;
+      base = m .base;
+      more = [];
+      split = m .split;
+      closed = m .closed;
+      based = m .based;
+      chain = m .chain;
+      ready = tt;
+      multi = tt;
+      followed = all-map (Followed k (m .past) (m .base) [] []) (Followed 0 (m .past) (m .base) [] [])
+          (λ a t. rw (← append-nil (m .past)) (followed-idle k (m .past) [] (m .base) (m .base) [] [] [] a t)) as′ (m .followed);
+    },
+    tt,
+  )
+  settled-inv (u ∷ us) m = go (multi (u .first)) refl (λ m′. settled-inv us m′)
+    where
+      place : Bool → Place
+      place b = elim b [
+        | true ↦ record { uncommitted = sent u ∷ us; answers = heldBy u }
+        | false ↦ record { uncommitted = settled us .uncommitted; answers = heldBy u ++ settled us .answers }
+      ]
+
+      go : (b : Bool) → multi (u .first) ≡ b → (Mid cs₀ l cs k us ws as′ → Inv cs₀ l cs (settled us .uncommitted) ws as′ × All (Sure cs₀ l) (settled us .answers))
+          → Inv cs₀ l cs (place b .uncommitted) ws as′ × All (Sure cs₀ l) (place b .answers)
+      go true e rec = (new-front u us e m, held-sure u us m)
+      go false e rec =
+          let x = rec (single-settles u us e m) in
+          (x .0, all-append (Sure cs₀ l) (heldBy u) (settled us .answers) (held-sure u us m) (x .1))
+
+-- after an accepted call: the log was l and is l′, the largest number top′
+pub record Got (cs₀ : Cells) (l l′ : Log) (top′ : ℕ) (as′ : List Answer) (q : Queues) : Type 0 where
+  pub after : After cs₀ l′ as′ q
+  pub rises : InOrder 0 top′ l′
+  pub grows : Grows l l′
+
+followed-sure : (cs₀ : Cells) (l : Log) (P : Log) (b : Cells) (fs : List Fragment) (us : List Uncommitted) (new : List Answer) → All (Sure cs₀ l) new → All (Followed 0 P b fs us) new
+followed-sure cs₀ l P b fs us new h = all-map (Sure cs₀ l) (Followed 0 P b fs us) (λ a s z. absurd (z (s .0))) new h
+
+plain-sure : (cs₀ : Cells) (l : Log) (new : List Answer) → All (Sure cs₀ l) new → All (Plain cs₀ l) new
+plain-sure cs₀ l new h = all-map (Sure cs₀ l) (Plain cs₀ l) (λ a s z. s .1) new h
+
+-- more answers to follow, none of which depends
+followed : (cs₀ : Cells) (l : Log) (cs : Cells) (us : List Uncommitted) (ws : List Waiting) (as′ new : List Answer) → All (Sure cs₀ l) new → Inv cs₀ l cs us ws as′ → Inv cs₀ l cs us ws (as′ ++ new)
+followed cs₀ l cs us ws as′ new h i = record {
+  past = i .past;
+  base = i .base;
+  more = i .more;
+  split = i .split;
+  closed = i .closed;
+  based = i .based;
+  chain = i .chain;
+  ready = i .ready;
+  multi = i .multi;
+  followed = all-append (Followed 0 (i .past) (i .base) (i .more) us) as′ new (i .followed) (followed-sure cs₀ l (i .past) (i .base) (i .more) us new h);
+}
+
+-- a call that sends some answers itself and then drains
+sends-drains : (cs₀ : Cells) (top : ℕ) (l : Log) → InOrder 0 top l → (cs : Cells) (us : List Uncommitted) (ws : List Waiting) (as′ new : List Answer) → All (Sure cs₀ l) new → Inv cs₀ l cs us ws as′
+    → After cs₀ l as′ (sending new (drain cs us ws))
+sends-drains cs₀ top l rises cs us ws as′ new h i =
+    let a = drain-inv cs₀ top l rises cs us ws (as′ ++ new) (followed cs₀ l cs us ws as′ new h i) in
+    record {
+      inv = subst (λ (x : List Answer). Inv cs₀ l (drain cs us ws .cells) (drain cs us ws .uncommitted) (drain cs us ws .waiting) x) (append-assoc as′ new (drain cs us ws .answers)) (a .inv);
+      idle = a .idle;
+      plain = all-append (Plain cs₀ l) new (drain cs us ws .answers) (plain-sure cs₀ l new h) (a .plain);
+    }
+
+module _ (cs₀ : Cells) (top : ℕ) (l : Log) (rises : InOrder 0 top l) (cs : Cells) (ws : List Waiting) (as′ : List Answer) where
+  -- the log around the front
+  module _ (u : Uncommitted) (us : List Uncommitted) (i : Inv cs₀ l cs (u ∷ us) ws as′) where
+    pub rises-front : InOrder 0 top (i .past ++ txOf (i .more) u ∷ (lives [] us ++ map asTx ws))
+    rises-front = subst (λ (x : Log). InOrder 0 top x) (i .split) rises
+
+    pub log-front : (g : Tx → Tx) → at (u .number) g l ≡ i .past ++ g (txOf (i .more) u) ∷ (lives [] us ++ map asTx ws)
+    log-front g = ap (at (u .number) g) (i .split) ∙ at-at top (txOf (i .more) u) (lives [] us ++ map asTx ws) g 0 (i .past) rises-front
+
+    pub rises-log-front : (g : Tx → Tx) → g (txOf (i .more) u) .number ≡ u .number → InOrder 0 top (at (u .number) g l)
+    rises-log-front g e = subst (λ (x : Log). InOrder 0 top x) (sym (log-front g)) (rises-put 0 top (i .past) (txOf (i .more) u) (g (txOf (i .more) u)) (lives [] us ++ map asTx ws) e rises-front)
+
+    pub front-undecided : standing (txOf (i .more) u) ≡ Undecided
+    front-undecided = ap {B = Standing} (λ (b : Bool). elim b [ false ↦ Settles | true ↦ Undecided ]) (i .multi)
+
+    grows-front : (g : Tx → Tx) → Grows l (at (u .number) g l)
+    grows-front g = subst₂ Grows (sym (i .split)) (sym (log-front g)) (grows-put (i .past) (txOf (i .more) u) (g (txOf (i .more) u)) (lives [] us ++ map asTx ws) (i .closed) front-undecided)
+
+    pub top-front : u .number ≤ top
+    top-front = go 0 (i .past) rises-front
+      where
+        go : (n : ℕ) (P : Log) → InOrder n top (P ++ txOf (i .more) u ∷ (lives [] us ++ map asTx ws)) → u .number ≤ top
+        go n [] h = rises-below (u .number) top (lives [] us ++ map asTx ws) (h .1)
+        go n (p ∷ P) h = go (p .number) P (h .1)
+
+    -- "Commit of the front: it settles."
+    front-settles : Mid cs₀ (at (u .number) (decided Committed) l) cs (u .number) us ws as′
+    front-settles = record {
+      past = i .past ++ done ∷ [];
+      base = effect (txOf (i .more) u) (i .base);
+      split = log-front (decided Committed) ∙ sym (append-assoc (i .past) (done ∷ []) (lives [] us ++ map asTx ws));
+      closed = closed-snoc (i .past) done (i .closed) (past-if (standing done) st);
+      based = past-settles (i .past) done cs₀ (i .closed) st ∙ ap (effect done) (i .based);
+      chain = i .chain .1;
+      ready = ready-tail u us (i .ready);
+      gone = (done, Memᴰ·append-right (i .past) (List·Memᴰ·head refl), refl);
+      followed = all-map (Followed 0 (i .past) (i .base) (i .more) (u ∷ us)) (Followed (u .number) (i .past ++ done ∷ []) (effect (txOf (i .more) u) (i .base)) [] us) (λ a t h. go a h (t h)) as′ (i .followed);
+    }
+      where
+        done : Tx
+        done = decided Committed (txOf (i .more) u)
+
+        st : standing done ≡ Settles
+        st = ap {B = Standing} (λ (b : Bool). elim b [ false ↦ Settles | true ↦ Settles ]) (i .multi)
+
+        go : (a : Answer) → (a .dependence ≡ 0 → ⊥) → Pend 0 (i .base) (i .more) (u ∷ us) a ⊎ InPast (a .dependence) (i .past)
+            → Pend (u .number) (effect (txOf (i .more) u) (i .base)) [] us a ⊎ InPast (a .dependence) (i .past ++ done ∷ [])
+        go a z (inr x) = inr (in-past (a .dependence) (i .past) (done ∷ []) x)
+        go a z (inl p) = here (pend-multi-leaves 0 (i .base) (i .more) u us a (i .multi) p)
+          where
+            here : (a .dependence ≡ 0) ⊎ Pend (u .number) (effect (txOf (i .more) u) (i .base)) [] us a
+                → Pend (u .number) (effect (txOf (i .more) u) (i .base)) [] us a ⊎ InPast (a .dependence) (i .past ++ done ∷ [])
+            here (inl y) = absurd (z y)
+            here (inr y) = inl y
+
+    pub commit-inv : Got cs₀ l (at (u .number) (decided Committed) l) top as′ (committed cs (u ∷ us) ws)
+    commit-inv =
+        let h = rises-log-front (decided Committed) refl in
+        let x = settled-inv cs₀ top (at (u .number) (decided Committed) l) h cs (u .number) ws as′ us front-settles in
+        record { after = sends-drains cs₀ top (at (u .number) (decided Committed) l) h cs (settled us .uncommitted) ws as′ (settled us .answers) (x .1) (x .0); rises = h; grows = grows-front (decided Committed) }
+
+    -- "Abort of the front": nothing that depended is followed any longer
+    pub abort-inv : Got cs₀ l (at (u .number) (decided Aborted) l) top [] (aborted cs (u ∷ us) ws)
+    abort-inv = record { after = drain-inv cs₀ top (at (u .number) (decided Aborted) l) h (undone (undoList (u ∷ us)) cs) [] (map requeued us ++ ws) [] inv; rises = h; grows = grows-front (decided Aborted) }
+      where
+        gone : Tx
+        gone = decided Aborted (txOf (i .more) u)
+
+        h : InOrder 0 top (at (u .number) (decided Aborted) l)
+        h = rises-log-front (decided Aborted) refl
+
+        st : standing gone ≡ Gone
+        st = ap {B = Standing} (λ (b : Bool). elim b [ false ↦ Settles | true ↦ Gone ]) (i .multi)
+
+        inv : Inv cs₀ (at (u .number) (decided Aborted) l) (undone (undoList (u ∷ us)) cs) [] (map requeued us ++ ws) []
+        inv = record {
+          past = i .past ++ gone ∷ [];
+          base = i .base;
+          more = [];
+          split = log-front (decided Aborted) ∙ sym (append-assoc (i .past) (gone ∷ []) (lives [] us ++ map asTx ws))
+              ∙ ap (λ (x : Log). (i .past ++ gone ∷ []) ++ x) (ap (λ (x : Log). x ++ map asTx ws) (lives-requeued us) ∙ sym (map-append (map requeued us) ws));
+          closed = closed-snoc (i .past) gone (i .closed) (subst Past (sym st) tt);
+          based = past-gone (i .past) gone cs₀ (i .closed) st ∙ i .based;
+          chain = sym (chain-undone (i .base) (i .more) (u ∷ us) cs (i .chain));
+          ready = tt;
+          multi = tt;
+          followed = tt;
+        }
+
+-- "Arrival, number of the front": an unfinished front is alone
+pub again-inv : (cs₀ : Cells) (top : ℕ) (l : Log) (rises : InOrder 0 top l) (cs : Cells) (ws : List Waiting) (as′ : List Answer) (u : Uncommitted) (us : List Uncommitted)
+    (i : Inv cs₀ l cs (u ∷ us) ws as′) (f : Fragment) → finished (u .state) ≡ false → Got cs₀ l (at (u .number) (extended f) l) top as′ (continued f cs u us ws)
+again-inv cs₀ top l rises cs ws as′ u (v ∷ us) i f nf = absurd (true≢false (sym (i .ready .0) ∙ nf))
+again-inv cs₀ top l rises cs ws as′ u [] i f nf = record {
+  after = sends-drains cs₀ top (at (u .number) (extended f) l) h (run f cs (u .undo) .cells) (again u f (run f cs (u .undo)) ∷ []) ws as′ (answer (u .number) 0 (run f cs (u .undo) .outcome) ∷ []) (
+    (
+      refl,
+      gives-at cs₀ top (at (u .number) (extended f) l) (i .past) (txOf (i .more ++ (f ∷ [])) u) (map asTx ws) (run f cs (u .undo) .outcome) h log
+          (x .1 ∙ ap (λ (y : Cells). told (attempt (txOf (i .more ++ (f ∷ [])) u) y)) (sym (i .based))),
+    ),
+    tt,
+  ) inv;
+  rises = h;
+  grows = grows-front cs₀ top l rises cs ws as′ u [] i (extended f);
+}
+  where
+    h : InOrder 0 top (at (u .number) (extended f) l)
+    h = rises-log-front cs₀ top l rises cs ws as′ u [] i (extended f) refl
+
+    log : at (u .number) (extended f) l ≡ i .past ++ txOf (i .more ++ (f ∷ [])) u ∷ map asTx ws
+    log = log-front cs₀ top l rises cs ws as′ u [] i (extended f)
+
+    x : (Entry (i .base) (i .more ++ (f ∷ [])) (again u f (run f cs (u .undo))) × (effect (txOf (i .more ++ (f ∷ [])) u) (i .base) ≡ run f cs (u .undo) .cells))
+        × (run f cs (u .undo) .outcome ≡ told (attempt (txOf (i .more ++ (f ∷ [])) u) (i .base)))
+    x = again-entry (i .base) (i .more) u f cs (i .chain .0) (i .chain .1) nf
+
+    inv : Inv cs₀ (at (u .number) (extended f) l) (run f cs (u .undo) .cells) (again u f (run f cs (u .undo)) ∷ []) ws as′
+    inv = record {
+      past = i .past;
+      base = i .base;
+      more = i .more ++ (f ∷ []);
+      split = log;
+      closed = i .closed;
+      based = i .based;
+      chain = x .0;
+      ready = tt;
+      multi = i .multi;
+      followed = all-map (Followed 0 (i .past) (i .base) (i .more) (u ∷ [])) (Followed 0 (i .past) (i .base) (i .more ++ (f ∷ [])) (again u f (run f cs (u .undo)) ∷ [])) (λ a t z. go a z (t z)) as′ (i .followed);
+    }
+      where
+        go : (a : Answer) → (a .dependence ≡ 0 → ⊥) → Pend 0 (i .base) (i .more) (u ∷ []) a ⊎ InPast (a .dependence) (i .past)
+            → Pend 0 (i .base) (i .more ++ (f ∷ [])) (again u f (run f cs (u .undo)) ∷ []) a ⊎ InPast (a .dependence) (i .past)
+        go a z (inl p) = absurd (pend-alone (i .base) (i .more) u a z p)
+        go a z (inr y) = inr y
+
+-- "Arrival, new number": join the end of the waiting queue
+pub new-inv : (cs₀ : Cells) (top : ℕ) (l : Log) (rises : InOrder 0 top l) (cs : Cells) (us : List Uncommitted) (ws : List Waiting) (as′ : List Answer) (w : Waiting)
+    (i : Inv cs₀ l cs us ws as′) → top < w .number → Got cs₀ l (l ++ asTx w ∷ []) (w .number) as′ (joined (w .number) (w .fragment) cs us ws)
+new-inv cs₀ top l rises cs us ws as′ w i k = record {
+  after = drain-inv cs₀ (w .number) (l ++ asTx w ∷ []) h cs us (ws ++ (w ∷ [])) as′ (record {
+    past = i .past;
+    base = i .base;
+    more = i .more;
+    split = ap (λ (x : Log). x ++ asTx w ∷ []) (i .split) ∙ append-assoc (i .past) (lives (i .more) us ++ map asTx ws) (asTx w ∷ [])
+        ∙ ap (λ (x : Log). i .past ++ x) (append-assoc (lives (i .more) us) (map asTx ws) (asTx w ∷ []) ∙ ap (λ (x : Log). lives (i .more) us ++ x) (sym (map-append ws (w ∷ []))));
+    closed = i .closed;
+    based = i .based;
+    chain = i .chain;
+    ready = i .ready;
+    multi = i .multi;
+    followed = i .followed;
+  });
+  rises = h;
+  grows = grows-more l (asTx w);
+}
+  where
+    h : InOrder 0 (w .number) (l ++ asTx w ∷ [])
+    h = rises-more 0 top l (asTx w) k rises

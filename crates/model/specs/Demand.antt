@@ -1,0 +1,168 @@
+-- Demand 3: "From a fresh start, after any sequence of calls, the cells are those of a serial run of the settled and then the uncommitted
+-- transactions, and every answer carries what that serial run gives." First the log, a function of the calls and the returned numbers alone.
+use Prim.Native.Nat.{ℕ, zero, suc, _≤_, _<_}
+use mathlib.Core.Path.{_≡_}
+use mathlib.Core.Bool.{Bool, true, false}
+use mathlib.Core.List.{List, [], _∷_, _++_, map, List·Memᴰ}
+use lib.Dec.{ltb, eqb}
+use lib.ListN.{length, take}
+use Rattle.model.specs.Operations.{Cells, Outcome, multi, told}
+use Rattle.model.specs.Transactions.{Engine, Answer, numbers}
+use Rattle.model.specs.Refusals.{Request, Arrive, Commit, Abort, request, Call, Stepped, step, start}
+use Rattle.model.specs.Serial.{Tx, Decision, Open, Committed, Aborted, attempt, serial}
+use Rattle.model.specs.declared.Fragment.{Fragment}
+
+-- The accepted transactions in the order of their arrival, each with its accepted fragments and its accepted decision.
+abbrev pub Log : Type 0
+Log = List Tx
+
+abbrev pub known : ℕ → Log → Bool
+known n [] = false
+known n (t ∷ ts) = elim (eqb (t .number) n) [ true ↦ true | false ↦ known n ts ]
+
+-- change transaction n
+abbrev pub at : ℕ → (Tx → Tx) → Log → Log
+at n g [] = []
+at n g (t ∷ ts) = elim (eqb (t .number) n) [ true ↦ g t ∷ ts | false ↦ t ∷ at n g ts ]
+
+abbrev pub extended : Fragment → Tx → Tx
+extended f t = record { number = t .number; first = t .first; more = t .more ++ (f ∷ []); decision = t .decision }
+
+abbrev pub decided : Decision → Tx → Tx
+decided d t = record { number = t .number; first = t .first; more = t .more; decision = d }
+
+-- an accepted request
+abbrev pub logged : Request → Log → Log
+logged (Arrive n f) l = elim (known n l) [ true ↦ at n (extended f) l | false ↦ l ++ (record { number = n; first = f; more = []; decision = Open } ∷ []) ]
+logged (Commit n) l = at n (decided Committed) l
+logged (Abort n) l = at n (decided Aborted) l
+
+-- a request and the number that its call returned: a refused one leaves no trace
+abbrev pub noticed : ℕ → Request → Log → Log
+noticed zero q l = logged q l
+noticed (suc k) q l = l
+
+-- a sequence of calls, each given the record that the last one returned: the record, the cells that the caller keeps, and the log
+pub record Run : Type 0 where
+  pub engine : Engine
+  pub cells : Cells
+  pub log : Log
+
+-- what the caller keeps of a call: the cells that it lent, if the call was accepted
+abbrev pub kept : ℕ → Cells → Cells → Cells
+kept zero old new = new
+kept (suc k) old new = old
+
+abbrev pub onward : Run → Call → Run
+onward r c =
+    let s = step (r .engine) c in
+    record { engine = s .engine; cells = kept (s .number) (r .cells) (s .cells); log = noticed (s .number) (request (c .event)) (r .log) }
+
+abbrev pub runs : Run → List Call → Run
+runs r [] = r
+runs r (c ∷ calls) = runs (onward r c) calls
+
+-- "a fresh engine, any starting cells"
+abbrev pub fresh : Cells → Run
+fresh cs = record { engine = start (length cs) .engine; cells = cs; log = [] }
+
+-- each accepted call is lent the same cells; a refused one may be lent any
+abbrev pub Lends : Run → Call → Type 0
+Lends r c = step (r .engine) c .number ≡ 0 → c .lent ≡ r .cells
+
+abbrev pub AllLend : Run → List Call → Type 0
+AllLend r [] = Unit {0}
+AllLend r (c ∷ calls) = Lends r c × AllLend (onward r c) calls
+
+-- Settled and live, read off the log: a multi settles by its commit, a single once no undecided multi is ahead of it.
+pub data Standing : Type 0 where
+  Settles : Standing
+  Gone : Standing
+  Undecided : Standing
+
+abbrev pub standing : Tx → Standing
+standing t = elim (multi (t .first)) [ false ↦ Settles | true ↦ elim (t .decision) [ Open ↦ Undecided | Committed ↦ Settles | Aborted ↦ Gone ] ]
+
+-- up to the first undecided multi, without the aborted ones
+abbrev pub settledOf : Log → List Tx
+settledOf [] = []
+settledOf (t ∷ ts) = elim (standing t) [ Settles ↦ t ∷ settledOf ts | Gone ↦ settledOf ts | Undecided ↦ [] ]
+
+-- from the first undecided multi on
+abbrev pub liveOf : Log → List Tx
+liveOf [] = []
+liveOf (t ∷ ts) = elim (standing t) [ Settles ↦ liveOf ts | Gone ↦ liveOf ts | Undecided ↦ t ∷ ts ]
+
+-- the uncommitted ones: as many of the live ones as the record's queue has
+abbrev pub uncommittedOf : Run → List Tx
+uncommittedOf r = take (length (r .engine .uncommitted)) (liveOf (r .log))
+
+-- "the cells between any two calls are those of a serial run of the settled transactions in number order and then the uncommitted ones in
+-- queue order as far as their fragments have run; an aborted or failed one contributes nothing"
+abbrev pub CellsHold : Cells → Run → Type 0
+CellsHold cs r = r .cells ≡ serial (uncommittedOf r) (serial (settledOf (r .log)) cs)
+
+abbrev pub numbersOf : List Tx → List ℕ
+numbersOf ts = map (λ (t : Tx). t .number) ts
+
+-- "in queue order": the record's queues hold the live ones of the log
+abbrev pub QueueOrder : Run → Type 0
+QueueOrder r = numbers (r .engine .uncommitted) (r .engine .waiting) ≡ numbersOf (liveOf (r .log))
+
+-- numbers rise from above n to at most top
+abbrev pub Rises : ℕ → ℕ → List ℕ → Type 0
+Rises n top [] = n ≤ top
+Rises n top (m ∷ ms) = (n < m) × Rises m top ms
+
+-- "settling order is number order": the settled ones and then the live ones rise to the largest accepted, and what settles in a call
+-- settles behind all that was settled before it
+pub record SettlingOrder (r : Run) (c : Call) : Type 0 where
+  pub rises : Rises 0 (r .engine .largest) (numbersOf (settledOf (r .log) ++ liveOf (r .log)))
+  pub more : List Tx
+  pub grows : settledOf (onward r c .log) ≡ settledOf (r .log) ++ more
+
+-- the part of the log before number n
+abbrev pub before : ℕ → Log → Log
+before n [] = []
+before n (t ∷ ts) = elim (ltb (t .number) n) [ true ↦ t ∷ before n ts | false ↦ [] ]
+
+pub data Found : Type 0 where
+  This : Tx → Found
+  None : Found
+
+abbrev pub the : ℕ → Log → Found
+the n [] = None
+the n (t ∷ ts) = elim (eqb (t .number) n) [ true ↦ This t | false ↦ the n ts ]
+
+-- o is "the numbers, or the place, that its fragment gives directly after everything settled before it and its own transaction's earlier
+-- fragments"
+abbrev pub Gives : Cells → ℕ → Log → Outcome → Type 0
+Gives cs n l o = (t : Tx) × (the n l ≡ This t) × (o ≡ told (attempt t (serial (settledOf (before n l)) cs)))
+
+-- "an answer without a dependence carries" that: an answer of the call c, made at r
+abbrev pub PlainRight : Cells → Run → Call → Type 0
+PlainRight cs r c = (a : Answer) → List·Memᴰ a (step (r .engine) c .answers) → a .dependence ≡ 0 → Gives cs (a .number) (onward r c .log) (a .outcome)
+
+-- no abort was accepted in these calls
+abbrev pub NoAbort : Run → List Call → Type 0
+NoAbort r [] = Unit {0}
+NoAbort r (c ∷ calls) = (step (r .engine) c .number ≡ 0 → (n : ℕ) → request (c .event) ≡ Abort n → ⊥) × NoAbort (onward r c) calls
+
+-- "an answer that depends on D carries what that same run gives if D commits and no abort was accepted between the answer and that commit":
+-- c sends the answer, `between` are the calls after it, d commits D
+abbrev pub DependentRight : Cells → Run → Call → List Call → Call → Type 0
+DependentRight cs r c between d =
+    (a : Answer) → List·Memᴰ a (step (r .engine) c .answers) → (a .dependence ≡ 0 → ⊥)
+    → NoAbort (onward r c) between
+    → request (d .event) ≡ Commit (a .dependence)
+    → step (runs (onward r c) between .engine) d .number ≡ 0
+    → Gives cs (a .number) (onward (runs (onward r c) between) d .log) (a .outcome)
+
+-- Demand 3, a field for each sentence: after any calls from a fresh start on cs
+pub record Demand3 (cs : Cells) : Type 0 where
+  pub cells : (calls : List Call) → AllLend (fresh cs) calls → CellsHold cs (runs (fresh cs) calls)
+  pub queues : (calls : List Call) → AllLend (fresh cs) calls → QueueOrder (runs (fresh cs) calls)
+  pub settling : (calls : List Call) → AllLend (fresh cs) calls → (c : Call) → Lends (runs (fresh cs) calls) c → SettlingOrder (runs (fresh cs) calls) c
+  pub plain : (calls : List Call) → AllLend (fresh cs) calls → (c : Call) → Lends (runs (fresh cs) calls) c → PlainRight cs (runs (fresh cs) calls) c
+  pub dependent : (calls : List Call) → AllLend (fresh cs) calls → (c : Call) → Lends (runs (fresh cs) calls) c → (between : List Call)
+      → AllLend (onward (runs (fresh cs) calls) c) between → (d : Call) → DependentRight cs (runs (fresh cs) calls) c between d

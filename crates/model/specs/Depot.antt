@@ -1,0 +1,125 @@
+-- Document 01, "Depot cases": P1 to P9, one table. Each case: the starting cells, the events, for each of them the returned number with
+-- the answers, and the cells at the end. "Cells 5 and 10 unless said."
+use Prim.Native.Nat.{ℕ, _-_}
+use mathlib.Core.List.{List, [], _∷_, _++_}
+use lib.ListN.{length, replicate}
+use Rattle.model.specs.Limits.{TOP, leastRoom}
+use Rattle.model.specs.Operations.{Cells}
+use Rattle.model.specs.Transactions.{Engine, Answer, answer}
+use Rattle.model.specs.Refusals.{Stepped, step, start}
+use Rattle.model.specs.declared.Op.{Op}
+use Rattle.model.specs.declared.Event.{Event}
+
+-- what a trace prints: a number and answers for each event, then the cells
+pub record Printed : Type 0 where
+  pub events : List (ℕ × List Answer)
+  pub cells : Cells
+
+abbrev pub printed : List (ℕ × List Answer) → Cells → Printed
+printed es cs = record { events = es; cells = cs }
+
+unfoldable pub traced : Engine → Cells → List Event → Printed
+traced e cs [] = printed [] cs
+traced e cs (v ∷ vs) =
+    let s = step e (record { event = v; lent = cs; room = replicate leastRoom 0 }) in
+    let p = traced (s .engine) (s .cells) vs in
+    printed ((s .number, s .answers) ∷ p .events) (p .cells)
+
+pub record Case : Type 0 where
+  pub cells : Cells
+  pub events : List Event
+  pub prints : Printed
+
+abbrev pub outcomeOf : Case → Printed
+outcomeOf c = traced (start (length (c .cells)) .engine) (c .cells) (c .events)
+
+-- Events by their words. A row has eight places, unused ones zero.
+
+abbrev op : ℕ → ℕ → ℕ → Op
+op a b v = record { code = a; cell = b; amount = v }
+
+abbrev event : ℕ → ℕ → ℕ → ℕ → List Op → Event
+event k n fl co os = record {
+  kind = k;
+  number = n;
+  fragment = record { flags = fl; coordinator = co; count = length os; row = os ++ replicate (8 - length os) (op 0 0 0) };
+}
+
+abbrev single : ℕ → List Op → Event
+single n os = event 1 n 2 0 os
+
+abbrev unfinished : ℕ → ℕ → List Op → Event
+unfinished n co os = event 1 n 1 co os
+
+abbrev finishing : ℕ → ℕ → List Op → Event
+finishing n co os = event 1 n 3 co os
+
+abbrev commit : ℕ → Event
+commit n = event 2 n 0 0 []
+
+abbrev abort : ℕ → Event
+abort n = event 3 n 0 0 []
+
+abbrev one : Op → List Op
+one o = o ∷ []
+
+-- answers
+
+abbrev gave : ℕ → ℕ → List ℕ → Answer
+gave n d ns = answer n d (record { place = 0; numbers = ns })
+
+abbrev failing : ℕ → ℕ → Answer
+failing n p = answer n 0 (record { place = p; numbers = [] })
+
+-- accepted, with one answer; accepted, with none
+abbrev ok : Answer → ℕ × List Answer
+ok a = (0, a ∷ [])
+
+abbrev quiet : ℕ × List Answer
+quiet = (0, [])
+
+abbrev refused : ℕ → ℕ × List Answer
+refused n = (n, [])
+
+-- P1 and P2 up to their event 5; P7
+abbrev opening : List Event
+opening = unfinished 1 1 (one (op 1 0 0)) ∷ single 2 (one (op 3 0 1)) ∷ single 3 (one (op 3 0 1)) ∷ finishing 1 1 (one (op 2 0 17)) ∷ []
+
+abbrev opened : List (ℕ × List Answer)
+opened = ok (gave 1 0 (5 ∷ [])) ∷ quiet ∷ quiet ∷ ok (gave 1 0 (17 ∷ [])) ∷ []
+
+abbrev chained : List Event
+chained = finishing 1 1 (one (op 2 0 17)) ∷ single 2 (one (op 3 0 1)) ∷ finishing 3 1 (one (op 3 0 1)) ∷ []
+
+abbrev chain : List (ℕ × List Answer)
+chain = ok (gave 1 0 (17 ∷ [])) ∷ quiet ∷ ok (gave 3 1 (19 ∷ [])) ∷ []
+
+abbrev pub depot : List Case
+depot =
+    -- P1 "the trace above"
+    record { cells = 5 ∷ []; events = opening ++ (commit 1 ∷ []); prints = printed (opened ++ ((0, gave 2 0 (18 ∷ []) ∷ gave 3 0 (19 ∷ []) ∷ []) ∷ [])) (19 ∷ []) }
+    -- P2 "abort as event 5: answers 6 and 7, cell 7"
+    ∷ record { cells = 5 ∷ []; events = opening ++ (abort 1 ∷ []); prints = printed (opened ++ ((0, gave 2 0 (6 ∷ []) ∷ gave 3 0 (7 ∷ []) ∷ []) ∷ [])) (7 ∷ []) }
+    -- P3 "multi 1, last, take 1 and take 1 of cell 1: numbers 9, 8; abort: 10"
+    ∷ record { cells = 5 ∷ 10 ∷ []; events = finishing 1 1 (op 4 1 1 ∷ op 4 1 1 ∷ []) ∷ abort 1 ∷ []; prints = printed (ok (gave 1 0 (9 ∷ 8 ∷ [])) ∷ quiet ∷ []) (5 ∷ 10 ∷ []) }
+    -- P4 "single take 10 of cell 1: 0"
+    ∷ record { cells = 5 ∷ 10 ∷ []; events = single 1 (one (op 4 1 10)) ∷ []; prints = printed (ok (gave 1 0 (0 ∷ [])) ∷ []) (5 ∷ 0 ∷ []) }
+    -- P5 "take 11: place 1, cell stays 10"
+    ∷ record { cells = 5 ∷ 10 ∷ []; events = single 1 (one (op 4 1 11)) ∷ []; prints = printed (ok (failing 1 1) ∷ []) (5 ∷ 10 ∷ []) }
+    -- P6 "cell TOP: add 0 gives TOP, add 1 fails"
+    ∷ record { cells = TOP ∷ []; events = single 1 (one (op 3 0 0)) ∷ single 2 (one (op 3 0 1)) ∷ []; prints = printed (ok (gave 1 0 (TOP ∷ [])) ∷ ok (failing 2 1) ∷ []) (TOP ∷ []) }
+    -- P7 "3 is answered 19, dependence 1"
+    ∷ record { cells = 5 ∷ 10 ∷ []; events = chained; prints = printed chain (19 ∷ 10 ∷ []) }
+    -- P8 "then multi 4 (coordinator 2, last, read 0): held. Commit 3: 7. Commit 1: 2 is answered, 3 not again. Commit 3: 4 is answered 19, dependence 0"
+    ∷ record {
+      cells = 5 ∷ 10 ∷ [];
+      events = chained ++ (finishing 4 2 (one (op 1 0 0)) ∷ commit 3 ∷ commit 1 ∷ commit 3 ∷ []);
+      prints = printed (chain ++ (quiet ∷ refused 7 ∷ ok (gave 2 0 (18 ∷ [])) ∷ ok (gave 4 0 (19 ∷ [])) ∷ [])) (19 ∷ 10 ∷ []);
+    }
+    -- P9 "commit of an unfinished front: 13; of a failed one: 14"
+    ∷ record {
+      cells = 5 ∷ 10 ∷ [];
+      events = unfinished 1 1 (one (op 1 0 0)) ∷ commit 1 ∷ finishing 1 1 (one (op 4 1 11)) ∷ commit 1 ∷ [];
+      prints = printed (ok (gave 1 0 (5 ∷ [])) ∷ refused 13 ∷ ok (failing 1 1) ∷ refused 14 ∷ []) (5 ∷ 10 ∷ []);
+    }
+    ∷ []

@@ -1,0 +1,160 @@
+-- Document 01, "The steps": a fragment's run with undo entries, undoing, drain, arrival, commit and abort.
+use Prim.Native.Nat.{ℕ, zero, suc, _+_}
+use mathlib.Core.Bool.{Bool, true, false, not, _&&_, _||_}
+use mathlib.Core.List.{List, [], _∷_, _++_, map}
+use lib.Dec.{ltb, eqb}
+use lib.ListN.{length, set}
+use Rattle.model.specs.Limits.{depth}
+use Rattle.model.specs.Operations.{Cells, Outcome, content, operate, put, writes, multi, last, operations}
+use Rattle.model.specs.Transactions.{State, Running, Finished, Failed, NoState, finished, Reply, Held, Sent, NoReply, Uncommitted, Waiting, Answer, answer, undoList}
+use Rattle.model.specs.declared.Op.{Op}
+use Rattle.model.specs.declared.Fragment.{Fragment}
+use Rattle.model.specs.declared.Undo.{Undo}
+use Rattle.model.specs.declared.Did.{Did}
+use Rattle.model.specs.declared.Did.the-variants.{Number, Fails}
+
+-- "Undoing walks the entries from the newest to the oldest": what stands behind u in the list is newer, and goes first.
+unfoldable pub undone : List Undo → Cells → Cells
+undone [] cs = cs
+undone (u ∷ us) cs = set (undone us cs) (u .cell) (u .old)
+
+-- "one for each writing operation that ran without failing": the entries us, and one more if o writes
+abbrev pub noted : Op → Cells → List Undo → List Undo
+noted o cs us = elim (writes (o .code)) [ true ↦ us ++ (record { cell = o .cell; old = content o cs } ∷ []) | false ↦ us ]
+
+-- what running a fragment leaves: the cells, what the answer tells, and the entries that its transaction then owns
+pub record Ran : Type 0 where
+  pub cells : Cells
+  pub outcome : Outcome
+  pub undo : List Undo
+
+-- "A failing operation writes nothing; its transaction has failed, all changes of that transaction (earlier fragments too) are taken back at
+-- once". p is the place of the next operation, ns the numbers so far, us what the transaction owns so far.
+unfoldable pub runFrom : ℕ → List Op → Cells → List ℕ → List Undo → Ran
+runFrom p [] cs ns us = record { cells = cs; outcome = record { place = 0; numbers = ns }; undo = us }
+runFrom p (o ∷ os) cs ns us =
+    elim (operate o cs) [
+      | Number y ↦ runFrom (suc p) os (put o y cs) (ns ++ (y ∷ [])) (noted o cs us)
+      | Fails ↦ record { cells = undone us cs; outcome = record { place = p; numbers = [] }; undo = [] }
+    ]
+
+-- run a fragment of a transaction that owns the entries us
+abbrev pub run : Fragment → Cells → List Undo → Ran
+run f cs us = runFrom 1 (operations f) cs [] us
+
+-- "finished locally when its last fragment has run or when it has failed"
+abbrev pub stateAfter : Fragment → Outcome → State
+stateAfter f o = elim (eqb (o .place) 0) [ true ↦ elim (last f) [ true ↦ Finished | false ↦ Running ] | false ↦ Failed ]
+
+-- a waiting one after its first fragment ran
+abbrev pub begun : Waiting → Ran → Reply → Uncommitted
+begun w r a = record { number = w .number; first = w .fragment; ran = 1; state = stateAfter (w .fragment) (r .outcome); reply = a; undo = r .undo }
+
+-- "all uncommitted multis including itself have one coordinator (singles do not count)": k is its own
+abbrev pub oneCoordinator : ℕ → List Uncommitted → Bool
+oneCoordinator k [] = true
+oneCoordinator k (u ∷ us) = (not (multi (u .first)) || eqb (u .first .coordinator) k) && oneCoordinator k us
+
+-- "the nearest multi ahead of it": the last multi's number, n where there is none
+abbrev pub nearest : ℕ → List Uncommitted → ℕ
+nearest n [] = n
+nearest n (u ∷ us) = elim (multi (u .first)) [ true ↦ nearest (u .number) us | false ↦ nearest n us ]
+
+abbrev pub lastFinished : List Uncommitted → Bool
+lastFinished [] = true
+lastFinished (u ∷ []) = finished (u .state)
+lastFinished (u ∷ v ∷ us) = lastFinished (v ∷ us)
+
+-- "either nothing is uncommitted or fewer than 16 are and the last of them is finished locally"
+abbrev pub mayTake : List Uncommitted → Bool
+mayTake [] = true
+mayTake (u ∷ us) = ltb (length (u ∷ us)) depth && lastFinished (u ∷ us)
+
+-- uncommitted ones, and answers sent
+pub record Place : Type 0 where
+  pub uncommitted : List Uncommitted
+  pub answers : List Answer
+
+-- Drain's three bullets: where the one that ran goes, behind those that are uncommitted
+unfoldable pub placed : List Uncommitted → Waiting → Ran → Place
+placed [] w r =
+    elim (multi (w .fragment)) [
+      -- "Nothing uncommitted, single: it settles at once and is answered, dependence 0."
+      | false ↦ record { uncommitted = []; answers = answer (w .number) 0 (r .outcome) ∷ [] }
+      -- "Nothing uncommitted, multi: it becomes the front and is answered, dependence 0."
+      | true ↦ record { uncommitted = begun w r Sent ∷ []; answers = answer (w .number) 0 (r .outcome) ∷ [] }
+    ]
+placed (u ∷ us) w r =
+    elim (multi (w .fragment) && oneCoordinator (w .fragment .coordinator) (u ∷ us)) [
+      -- "A single's answer is held. A multi is answered now .. else its answer is held."
+      | false ↦ record { uncommitted = u ∷ us ++ (begun w r (Held (r .outcome)) ∷ []); answers = [] }
+      -- "A multi is answered now, with a dependence on the nearest multi ahead of it"
+      | true ↦ record { uncommitted = u ∷ us ++ (begun w r Sent ∷ []); answers = answer (w .number) (nearest 0 (u ∷ us)) (r .outcome) ∷ [] }
+    ]
+
+-- what a step leaves: the cells, both queues, and the answers in the order in which they are sent
+pub record Queues : Type 0 where
+  pub cells : Cells
+  pub uncommitted : List Uncommitted
+  pub waiting : List Waiting
+  pub answers : List Answer
+
+-- these answers first
+abbrev pub sending : List Answer → Queues → Queues
+sending l q = record { cells = q .cells; uncommitted = q .uncommitted; waiting = q .waiting; answers = l ++ q .answers }
+
+-- "Drain: while something waits, and ..: take the first waiting one and run it."
+unfoldable pub drain : Cells → List Uncommitted → List Waiting → Queues
+drain cs us [] = record { cells = cs; uncommitted = us; waiting = []; answers = [] }
+drain cs us (w ∷ ws) =
+    elim (mayTake us) [
+      | false ↦ record { cells = cs; uncommitted = us; waiting = w ∷ ws; answers = [] }
+      | true ↦ let p = placed us w (run (w .fragment) cs []) in sending (p .answers) (drain (run (w .fragment) cs [] .cells) (p .uncommitted) ws)
+    ]
+
+-- the front after one more fragment
+abbrev pub again : Uncommitted → Fragment → Ran → Uncommitted
+again u f r = record { number = u .number; first = u .first; ran = u .ran + 1; state = stateAfter f (r .outcome); reply = Sent; undo = r .undo }
+
+-- "Arrival, new number: join the end of the waiting queue, then drain."
+abbrev pub joined : ℕ → Fragment → Cells → List Uncommitted → List Waiting → Queues
+joined n f cs us ws = drain cs us (ws ++ (record { number = n; fragment = f } ∷ []))
+
+-- "Arrival, number of the front (first uncommitted): run the fragment, answer with dependence 0, then drain."
+abbrev pub continued : Fragment → Cells → Uncommitted → List Uncommitted → List Waiting → Queues
+continued f cs u us ws =
+    let r = run f cs (u .undo) in sending (answer (u .number) 0 (r .outcome) ∷ []) (drain (r .cells) (again u f r ∷ us) ws)
+
+abbrev pub arrived : ℕ → Fragment → Cells → List Uncommitted → List Waiting → Queues
+arrived n f cs [] ws = joined n f cs [] ws
+arrived n f cs (u ∷ us) ws = elim (eqb (u .number) n) [ false ↦ joined n f cs (u ∷ us) ws | true ↦ continued f cs u us ws ]
+
+-- "if its answer was held, it is sent now with dependence 0, and if it was sent earlier it is not repeated"
+abbrev pub heldBy : Uncommitted → List Answer
+heldBy u = elim (u .reply) [ Held o ↦ answer (u .number) 0 o ∷ [] | Sent ↦ [] | NoReply ↦ [] ]
+
+abbrev pub sent : Uncommitted → Uncommitted
+sent u = record { number = u .number; first = u .first; ran = u .ran; state = u .state; reply = Sent; undo = u .undo }
+
+-- "Then singles settle and are answered from the front of the queue until a multi is first. That one is the new front"
+unfoldable pub settled : List Uncommitted → Place
+settled [] = record { uncommitted = []; answers = [] }
+settled (u ∷ us) =
+    elim (multi (u .first)) [
+      | true ↦ record { uncommitted = sent u ∷ us; answers = heldBy u }
+      | false ↦ record { uncommitted = settled us .uncommitted; answers = heldBy u ++ settled us .answers }
+    ]
+
+-- "Commit of the front: it settles. Then singles settle .. Then drain." Its entries go with it.
+abbrev pub committed : Cells → List Uncommitted → List Waiting → Queues
+committed cs [] ws = record { cells = cs; uncommitted = []; waiting = ws; answers = [] }
+committed cs (u ∷ us) ws = sending (settled us .answers) (drain cs (settled us .uncommitted) ws)
+
+-- "the others return to the head of the waiting queue in their old order"
+abbrev pub requeued : Uncommitted → Waiting
+requeued u = record { number = u .number; fragment = u .first }
+
+-- "Abort of the front: undo all uncommitted from the tail to the front; the front is gone; the others return .. Then drain."
+abbrev pub aborted : Cells → List Uncommitted → List Waiting → Queues
+aborted cs [] ws = record { cells = cs; uncommitted = []; waiting = ws; answers = [] }
+aborted cs (u ∷ us) ws = drain (undone (undoList (u ∷ us)) cs) [] (map requeued us ++ ws)

@@ -1,0 +1,392 @@
+// The operations of document 01 over lent cells: the table of codes, one operation, a fragment's run with its undo entries, undoing, and the
+// checks that read the table. Every function is total: a cell that is not there holds 0 and keeps nothing, as the definitions say.
+ghost use mathlib.Core.Path.{_≡_};
+ghost use mathlib.Core.List.{[]};
+ghost use Prim.Native.Nat.{_+_, _*_, _<_, min};
+ghost use lib.ListN.{length, getD, set, take, drop};
+ghost use Rattle.model.specs.Operations.{known, uses, writes, mayFail, meaning, multi, last, pick};
+ghost use Rattle.model.specs.Steps.{undone, run};
+ghost use Rattle.model.specs.Refusals.{formedOp, blankOp, formedKind, formed, blank, inside, every};
+ghost use Rattle.operations.specs.Laid.{entriesOf, operated, afterwards, noteCount, noteRow, laid, cellBelow};
+use model::Did;
+use model::Fragment;
+use model::Op;
+
+// "One table of codes says for each whether v is used, whether it may write and whether it may fail": place 0 is no code.
+const USES: [bool; 9] = [false, false, true, true, true, true, true, true, true];
+
+const WRITES: [bool; 9] = [false, false, true, true, true, false, false, true, true];
+
+const MAY_FAIL: [bool; 9] = [false, false, false, true, true, true, true, false, false];
+
+pub fn is_known(code: u32) -> bool
+    ensures { λ r. ⌜ r ≡ known code ⌝ }
+{
+    1 <= code && code <= 8
+}
+
+pub fn uses_amount(code: u32) -> bool
+    ensures { λ r. ⌜ r ≡ uses code ⌝ }
+{
+    if code < 9 { USES[code as usize] } else { false }
+}
+
+pub fn may_write(code: u32) -> bool
+    ensures { λ r. ⌜ r ≡ writes code ⌝ }
+{
+    if code < 9 {
+        WRITES[code as usize]
+    } else {
+        false
+    }
+}
+
+pub fn may_fail(code: u32) -> bool
+    ensures { λ r. ⌜ r ≡ mayFail code ⌝ }
+{
+    if code < 9 {
+        MAY_FAIL[code as usize]
+    } else {
+        false
+    }
+}
+
+// What a code makes of content x and amount v.
+pub fn apply(code: u32, x: u32, v: u32) -> Did
+    ensures { λ r. ⌜ r ≡ meaning code x v ⌝ }
+{
+    match code {
+        1 => Did::Number(x),
+        2 => Did::Number(v),
+        3 => {
+            if model::TOP - x < v {
+                Did::Fails
+            } else {
+                Did::Number(x + v)
+            }
+        }
+        4 => {
+            if x < v {
+                Did::Fails
+            } else {
+                Did::Number(x - v)
+            }
+        }
+        5 => { if x < v { Did::Fails } else { Did::Number(x) } }
+        6 => { if x == v { Did::Number(x) } else { Did::Fails } }
+        7 => {
+            if x < v {
+                Did::Number(v)
+            } else {
+                Did::Number(x)
+            }
+        }
+        8 => {
+            if v < x {
+                Did::Number(v)
+            } else {
+                Did::Number(x)
+            }
+        }
+        _ => Did::Fails,
+    }
+}
+
+// The number at a place of a slice, 0 past its end.
+pub fn number_at(s: &[u32], i: usize) -> u32
+    ensures { λ r. ⌜ r ≡ getD (now (s .entry)) i 0 ⌝ }
+{
+    if i < s.len() { s[i] } else { 0 }
+}
+
+// Puts a number at a place of a slice, nowhere past its end.
+pub fn put_at(s: &mut [u32], i: usize, y: u32)
+    ensures { λ _. ⌜ now (s .exit) ≡ set (now (s .entry)) i y ⌝ }
+{
+    if i < s.len() {
+        s[i] = y;
+    }
+}
+
+// What an operation did, and the content that it found.
+pub struct Operated {
+    pub did: Did,
+    pub old: u32,
+}
+
+// One operation on the lent cells: "A failing operation writes nothing".
+pub fn operate_on(cells: &mut [u32], o: Op) -> Operated
+    ensures { λ r. ⌜ r ≡ operated o (now (cells .entry)) ⌝ }
+    ensures { λ r. ⌜ now (cells .exit) ≡ afterwards o (now (cells .entry)) ⌝ }
+{
+    let at = o.cell as usize;
+    let x = number_at(cells, at);
+    let d = apply(o.code, x, o.amount);
+    match d {
+        Did::Number(y) => {
+            if may_write(o.code) {
+                put_at(cells, at, y);
+            }
+            Operated { did: d, old: x }
+        }
+        Did::Fails => Operated { did: d, old: x },
+    }
+}
+
+// "Undoing walks the entries from the newest to the oldest": `count` entries from the start of a row, each a cell and its old number.
+pub fn undo(cells: &mut [u32], entries: &[u32], count: u32)
+    ensures { λ _. ⌜ now (cells .exit) ≡ undone (entriesOf (now (entries .entry)) 0 count) (now (cells .entry)) ⌝ }
+{
+    let mut k = count as usize;
+    while 0 < k {
+        k = k - 1;
+        let cell = number_at(entries, 2 * k);
+        let old = number_at(entries, 2 * k + 1);
+        put_at(cells, cell as usize, old);
+    }
+}
+
+// A count of operations, at most the row's eight places.
+pub(crate) fn places(count: u32) -> usize
+    ensures { λ r. ⌜ r ≡ min count 8 ⌝ }
+{
+    if count < 8 { count as usize } else { 8 }
+}
+
+// One entry more in a fragment's own row of entries, if the operation writes; how many there are then.
+pub(crate) fn note(row: &mut [u32; 16], k: usize, o: Op, old: u32) -> usize
+    requires { ⌜ length (now row) ≡ 16 ⌝ }
+    requires { ⌜ k < 8 ⌝ }
+    ensures { λ r. ⌜ r ≡ noteCount o k ⌝ }
+    ensures { λ r. ⌜ now (row .exit) ≡ noteRow o old k (now (row .entry)) ⌝ }
+{
+    if may_write(o.code) {
+        row[2 * k] = o.cell;
+        row[2 * k + 1] = old;
+        k + 1
+    } else {
+        k
+    }
+}
+
+// What a fragment's run gives: the place of failure or 0, the numbers with their count, its own undo entries with their count; unused
+// places are zero.
+pub struct Ran {
+    pub place: u32,
+    pub count: u32,
+    pub numbers: [u32; 8],
+    pub entries: u32,
+    pub undo: [u32; 16],
+}
+
+// A fragment's operations in order over the lent cells. Where one fails, everything that the fragment changed is taken back here; what its
+// transaction changed before is taken back by the caller, who has those entries.
+pub fn run_fragment(cells: &mut [u32], f: Fragment) -> Ran
+    ensures { λ r. ⌜ r ≡ laid (run f (now (cells .entry)) []) ⌝ }
+    ensures { λ r. ⌜ now (cells .exit) ≡ run f (now (cells .entry)) [] .cells ⌝ }
+{
+    let row = f.row;
+    let count = places(f.count);
+    let mut numbers = [0u32; 8];
+    let mut own = [0u32; 16];
+    let mut entries: usize = 0;
+    let mut i: usize = 0;
+    while i < count {
+        let o = row[i];
+        let s = operate_on(cells, o);
+        let d = s.did;
+        match d {
+            Did::Number(y) => {
+                numbers[i] = y;
+                entries = note(&mut own, entries, o, s.old);
+            }
+            Did::Fails => {
+                undo(cells, &own, entries as u32);
+                return Ran {
+                    place: (i + 1) as u32,
+                    count: 0,
+                    numbers: [0u32; 8],
+                    entries: 0,
+                    undo: [0u32; 16],
+                };
+            }
+        }
+        i = i + 1;
+    }
+    Ran {
+        place: 0,
+        count: i as u32,
+        numbers: numbers,
+        entries: entries as u32,
+        undo: own,
+    }
+}
+
+// A later fragment of a transaction that owns `count` earlier entries: where it fails, "all changes of that transaction (earlier fragments
+// too) are taken back at once". The result has the fragment's own entries.
+pub fn continue_fragment(cells: &mut [u32], f: Fragment, earlier: &[u32], count: u32) -> Ran
+    ensures { λ r. ⌜ r ≡ laid (run f (now (cells .entry)) []) ⌝ }
+    ensures { λ r. ⌜ now (cells .exit) ≡ run f (now (cells .entry)) (entriesOf (now (earlier .entry)) 0 count) .cells ⌝ }
+{
+    let r = run_fragment(cells, f);
+    if r.place == 0 {
+        return r;
+    }
+    undo(cells, earlier, count);
+    r
+}
+
+// "flags (1 multi + 2 last)"
+pub fn is_multi(f: Fragment) -> bool
+    ensures { λ r. ⌜ r ≡ multi f ⌝ }
+{
+    f.flags % 2 == 1
+}
+
+pub fn is_last(f: Fragment) -> bool
+    ensures { λ r. ⌜ r ≡ last f ⌝ }
+{
+    f.flags / 2 % 2 == 1
+}
+
+// "unknown code, read with v above 0"
+pub fn is_formed_op(o: Op) -> bool
+    ensures { λ r. ⌜ r ≡ formedOp o ⌝ }
+{
+    if is_known(o.code) {
+        if uses_amount(o.code) {
+            true
+        } else {
+            o.amount == 0
+        }
+    } else {
+        false
+    }
+}
+
+// "unused place not zero"
+pub fn is_blank_op(o: Op) -> bool
+    ensures { λ r. ⌜ r ≡ blankOp o ⌝ }
+{
+    if o.code != 0 {
+        return false;
+    }
+    if o.cell != 0 {
+        return false;
+    }
+    o.amount == 0
+}
+
+// The first `count` places of a row each hold a well-formed operation.
+pub(crate) fn ops_formed(row: [Op; 8], count: u32) -> bool
+    ensures { λ r. ⌜ r ≡ every formedOp (take count row) ⌝ }
+{
+    let n = places(count);
+    let mut i: usize = 0;
+    while i < n {
+        let o = row[i];
+        if !is_formed_op(o) {
+            return false;
+        }
+        i = i + 1;
+    }
+    true
+}
+
+// The places of a row from `from` on are zero.
+pub(crate) fn ops_blank(row: [Op; 8], from: u32) -> bool
+    ensures { λ r. ⌜ r ≡ every blankOp (drop from row) ⌝ }
+{
+    let mut i = places(from);
+    while i < 8 {
+        let o = row[i];
+        if !is_blank_op(o) {
+            return false;
+        }
+        i = i + 1;
+    }
+    true
+}
+
+// The first `count` places of a row each name a cell below `cells`.
+pub(crate) fn ops_inside(row: [Op; 8], count: u32, cells: u32) -> bool
+    ensures { λ r. ⌜ r ≡ every (cellBelow cells) (take count row) ⌝ }
+{
+    let n = places(count);
+    let mut i: usize = 0;
+    while i < n {
+        let o = row[i];
+        if cells <= o.cell {
+            return false;
+        }
+        i = i + 1;
+    }
+    true
+}
+
+// "single not last, coordinator of the wrong range"
+pub(crate) fn is_formed_kind(f: Fragment) -> bool
+    ensures { λ r. ⌜ r ≡ formedKind f ⌝ }
+{
+    if is_multi(f) {
+        if f.coordinator < 1 {
+            return false;
+        }
+        f.coordinator <= model::MOST_COORDINATOR
+    } else {
+        if is_last(f) {
+            f.coordinator == 0
+        } else {
+            false
+        }
+    }
+}
+
+// Refusal 4, of a fragment.
+pub fn is_formed(f: Fragment) -> bool
+    ensures { λ r. ⌜ r ≡ formed f ⌝ }
+{
+    let count = f.count;
+    if count < 1 {
+        return false;
+    }
+    if model::MOST_OPERATIONS < count {
+        return false;
+    }
+    let row = f.row;
+    if !ops_formed(row, count) {
+        return false;
+    }
+    if !ops_blank(row, count) {
+        return false;
+    }
+    if 3 < f.flags {
+        return false;
+    }
+    is_formed_kind(f)
+}
+
+// "a decision with more than its number": it has none of a fragment's words.
+pub fn is_blank(f: Fragment) -> bool
+    ensures { λ r. ⌜ r ≡ blank f ⌝ }
+{
+    if f.flags != 0 {
+        return false;
+    }
+    if f.coordinator != 0 {
+        return false;
+    }
+    if f.count != 0 {
+        return false;
+    }
+    let row = f.row;
+    ops_blank(row, 0)
+}
+
+// Refusal 5, of a fragment: no operation names a cell at or beyond the count.
+pub fn is_inside(cells: u32, f: Fragment) -> bool
+    ensures { λ r. ⌜ r ≡ inside cells f ⌝ }
+{
+    let row = f.row;
+    ops_inside(row, f.count, cells)
+}
