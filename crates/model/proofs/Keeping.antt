@@ -67,7 +67,7 @@ eight-operations ct f s =
     let c : f .count ≤ mostOperations = leb-true (f .count) mostOperations (and-right (leb 1 (f .count)) _ (and-left _ _ (and-left _ _ (and-left _ _ (and-left _ _ (and-left (formed f) (inside ct f) s)))))) in
     omega (arith, length-take (f .count) (f .row))
 
-ran-left : (ct : ℕ) (f : Fragment) (cs : Cells) (us : List Undo) → storable ct f ≡ true → every (cellInside ct) us ≡ true → Left ct (length us + 8) (run f cs us)
+pub ran-left : (ct : ℕ) (f : Fragment) (cs : Cells) (us : List Undo) → storable ct f ≡ true → every (cellInside ct) us ≡ true → Left ct (length us + 8) (run f cs us)
 unfolding inside
 ran-left ct f cs us s a =
     let k : length (operations f) ≤ mostOperations = eight-operations ct f s in
@@ -156,7 +156,7 @@ ready-same u v (x ∷ us) e r = subst (λ (s : State). (finished s && ready (x �
 -- Drain
 
 -- take the first waiting one and run it
-placed-sound : (ct top : ℕ) (us : List Uncommitted) (w : Waiting) (ws : List Waiting) (cs : Cells) → mayTake us ≡ true → Sound ct top us (w ∷ ws)
+pub placed-sound : (ct top : ℕ) (us : List Uncommitted) (w : Waiting) (ws : List Waiting) (cs : Cells) → mayTake us ≡ true → Sound ct top us (w ∷ ws)
     → Sound ct top (placed us w (run (w .fragment) cs []) .uncommitted) ws × (length (placed us w (run (w .fragment) cs []) .answers) ≤ 1)
 unfolding placed
 placed-sound ct top [] w ws cs m s = go (multi (w .fragment)) refl

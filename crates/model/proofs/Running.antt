@@ -1,5 +1,6 @@
 -- A later fragment, run by itself and then joined with what its transaction owned before.
-use Prim.Native.Nat.{ℕ, suc, _<_}
+use Prim.Native.Nat.{ℕ, suc, _+_, _≤_, _<_}
+use lib.ListN.{length, length-append}
 use native.Mathlib.Omega.{arith}
 use borrow.Author.Tests.{ne-eqb}
 use mathlib.Core.Path.{_≡_, refl, sym, ap, _∙_}
@@ -51,3 +52,55 @@ from-earlier us p (o ∷ os) cs ns own h =
 
 pub run-earlier : (f : Fragment) (cs : Cells) (us : List Undo) → run f cs us ≡ withEarlier us (run f cs [])
 run-earlier f cs us = ap (runFrom 1 (operations f) cs []) (sym (append-nil us)) ∙ from-earlier us 1 (operations f) cs [] [] (omega arith)
+
+-- one entry at most for each operation
+from-few : (p : ℕ) (os : List Op) (cs : Cells) (ns : List ℕ) (us : List Undo) → length (runFrom p os cs ns us .undo) ≤ length us + length os
+unfolding runFrom
+from-few p [] cs ns us = omega arith
+from-few p (o ∷ os) cs ns us =
+    elim (operate o cs)
+    as (λ d. length (by d .undo) ≤ length us + suc (length os)) [
+      | Number y ↦ omega (arith, from-few (suc p) os (put o y cs) (ns ++ (y ∷ [])) (noted o cs us), few (writes (o .code)))
+      | Fails ↦ omega arith
+    ]
+  where
+    by : Did → Ran
+    by d = elim d [
+      | Number y ↦ runFrom (suc p) os (put o y cs) (ns ++ (y ∷ [])) (noted o cs us)
+      | Fails ↦ record { cells = undone us cs; outcome = record { place = p; numbers = [] }; undo = [] }
+    ]
+
+    few : (w : Bool) → length {A = Undo} (elim w [ true ↦ us ++ (record { cell = o .cell; old = content o cs } ∷ []) | false ↦ us ]) ≤ suc (length us)
+    few true = omega (arith, length-append us (record { cell = o .cell; old = content o cs } ∷ []))
+    few false = omega arith
+
+pub run-few : (f : Fragment) (cs : Cells) → length (run f cs [] .undo) ≤ length (operations f)
+run-few f cs = omega (arith, from-few 1 (operations f) cs [] [])
+
+-- one number at most for each operation
+from-numbers : (p : ℕ) (os : List Op) (cs : Cells) (ns : List ℕ) (us : List Undo) → length (runFrom p os cs ns us .outcome .numbers) ≤ length ns + length os
+unfolding runFrom
+from-numbers p [] cs ns us = omega arith
+from-numbers p (o ∷ os) cs ns us =
+    elim (operate o cs)
+    as (λ d. length (by d .outcome .numbers) ≤ length ns + suc (length os)) [
+      | Number y ↦ omega (arith, from-numbers (suc p) os (put o y cs) (ns ++ (y ∷ [])) (noted o cs us), length-append ns (y ∷ []))
+      | Fails ↦ omega arith
+    ]
+  where
+    by : Did → Ran
+    by d = elim d [
+      | Number y ↦ runFrom (suc p) os (put o y cs) (ns ++ (y ∷ [])) (noted o cs us)
+      | Fails ↦ record { cells = undone us cs; outcome = record { place = p; numbers = [] }; undo = [] }
+    ]
+
+pub run-numbers : (f : Fragment) (cs : Cells) → length (run f cs [] .outcome .numbers) ≤ length (operations f)
+run-numbers f cs = omega (arith, from-numbers 1 (operations f) cs [] [])
+
+-- what a later fragment tells is what it tells by itself
+pub outcome-earlier : (f : Fragment) (cs : Cells) (us : List Undo) → run f cs us .outcome ≡ run f cs [] .outcome
+outcome-earlier f cs us = ap (λ (r : Ran). r .outcome) (run-earlier f cs us) ∙ go (eqb (run f cs [] .outcome .place) 0)
+  where
+    go : (b : Bool) → joinedBy b us (run f cs []) .outcome ≡ run f cs [] .outcome
+    go true = refl
+    go false = refl

@@ -1,5 +1,5 @@
 -- Refusal 1 by parts: a sound record, member by member, and the test of it both ways.
-use Prim.Native.Nat.{ℕ, zero, suc, _+_, _*_, _≤_, _<_}
+use Prim.Native.Nat.{ℕ, zero, suc, _+_, _*_, _-_, _≤_, _<_}
 use native.Mathlib.Omega.{arith}
 use borrow.Author.Tests.{ltb-true, leb-true, lt-ltb, le-leb, not-true}
 use mathlib.Core.Path.{_≡_, refl, sym, ap, _∙_, subst}
@@ -103,6 +103,11 @@ module _ (ct : ℕ) where
   pub entries-most : (us : List Uncommitted) → length us ≤ depth → All (SoundOne ct) us → All (λ (u : Uncommitted). u .ran ≤ 1) (behind us) → length (undoList us) ≤ mostEntries
   entries-most [] l h k = omega arith
   entries-most (u ∷ us) l h k = omega (arith, length-append (u .undo) (undoList us), entries-behind us (h .1) k, h .0 .few, h .0 .eight)
+
+-- each uncommitted one that is still to come may bring eight more
+pub entries-depth : (ct top : ℕ) (us : List Uncommitted) (ws : List Waiting) → Sound ct top us ws → length (undoList us) + 8 * (16 - length us) ≤ mostEntries
+entries-depth ct top [] ws s = omega arith
+entries-depth ct top (u ∷ us) ws s = omega (arith, length-append (u .undo) (undoList us), entries-behind ct us (s .each .1) (s .ones), s .each .0 .few, s .each .0 .eight, s .sixteen)
 
 pub sound-parts : (e : Engine) → sound e ≡ true → SoundEngine e
 unfolding sound clauses

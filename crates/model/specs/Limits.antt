@@ -1,4 +1,4 @@
--- Every limit of document 01, each under one name.
+-- The limits of document 01 that its rules test, each under one name.
 use Prim.Native.Nat.{ℕ}
 
 -- "each a whole number from 0 to 4,294,967,295 (called TOP)"

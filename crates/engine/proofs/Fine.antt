@@ -1,0 +1,162 @@
+-- The steps only move fragments, and an answer tells at most eight numbers: of records whose rows have eight places.
+use Prim.Native.Nat.{ℕ, suc, _+_, _≤_}
+use native.Mathlib.Omega.{arith}
+use mathlib.Core.Path.{_≡_}
+use mathlib.Core.Bool.{Bool, true, false, _&&_}
+use mathlib.Core.List.{List, [], _∷_, _++_, map}
+use lib.Dec.{eqb}
+use lib.ListN.{length, length-append, length-take}
+use Rattle.model.specs.Operations.{Cells, operate, put, multi, operations}
+use Rattle.model.specs.Transactions.{Reply, Held, Sent, NoReply, Uncommitted, Waiting, Engine, Answer, answer}
+use Rattle.model.specs.Steps.{undone, noted, Ran, runFrom, run, begun, again, oneCoordinator, nearest, mayTake, Place, placed, Queues, sending, drain, joined, continued, arrived, heldBy, sent, settled, committed, requeued, aborted}
+use Rattle.model.specs.Refusals.{Arrive, Commit, Abort, request, taken}
+use Rattle.model.specs.declared.Op.{Op}
+use Rattle.model.specs.declared.Fragment.{Fragment}
+use Rattle.model.specs.declared.Event.{Event}
+use Rattle.model.specs.declared.Undo.{Undo}
+use Rattle.model.specs.declared.Did.the-variants.{Number, Fails}
+use Rattle.model.proofs.Chain.{All, all-append}
+use Rattle.record.specs.Words.{liveRows, heldOutcome}
+use Rattle.record.proofs.Back.{Eight, Fit}
+use Rattle.engine.specs.Carried.{Words}
+
+abbrev pub Small : Answer → Type 0
+Small a = length (a .outcome .numbers) ≤ 8
+
+-- an uncommitted one: its first fragment's row has eight places, and it holds at most eight numbers
+abbrev pub Kept : Uncommitted → Type 0
+Kept u = (length (u .first .row) ≡ 8) × Fit u
+
+pub record Fine (q : Queues) : Type 0 where
+  pub uncommitted : All Kept (q .uncommitted)
+  pub waiting : All Eight (q .waiting)
+  pub answers : All Small (q .answers)
+
+-- a run gives at most a number for each operation
+run-few : (p : ℕ) (os : List Op) (cs : Cells) (ns : List ℕ) (us : List Undo) → length (runFrom p os cs ns us .outcome .numbers) ≤ length ns + length os
+unfolding runFrom
+run-few p [] cs ns us = omega arith
+run-few p (o ∷ os) cs ns us =
+    elim (operate o cs)
+    as (λ d. length (elim d as (λ _. Ran) [
+      | Number y ↦ runFrom (suc p) os (put o y cs) (ns ++ (y ∷ [])) (noted o cs us)
+      | Fails ↦ record { cells = undone us cs; outcome = record { place = p; numbers = [] }; undo = [] }
+    ] .outcome .numbers) ≤ length ns + suc (length os)) [
+      | Number y ↦ omega (arith, run-few (suc p) os (put o y cs) (ns ++ (y ∷ [])) (noted o cs us), length-append ns (y ∷ []))
+      | Fails ↦ omega arith
+    ]
+
+pub run-small : (f : Fragment) (cs : Cells) (us : List Undo) → length (f .row) ≡ 8 → length (run f cs us .outcome .numbers) ≤ 8
+unfolding operations
+run-small f cs us h = omega (arith, run-few 1 (operations f) cs [] us, length-take (f .count) (f .row))
+
+placed-fine : (us : List Uncommitted) (w : Waiting) (cs : Cells) → All Kept us → Eight w
+    → All Kept (placed us w (run (w .fragment) cs []) .uncommitted) × All Small (placed us w (run (w .fragment) cs []) .answers)
+unfolding placed
+placed-fine [] w cs k e = go (multi (w .fragment))
+  where
+    place : Bool → Place
+    place b = elim b [
+      | false ↦ record { uncommitted = []; answers = answer (w .number) 0 (run (w .fragment) cs [] .outcome) ∷ [] }
+      | true ↦ record { uncommitted = begun w (run (w .fragment) cs []) Sent ∷ []; answers = answer (w .number) 0 (run (w .fragment) cs [] .outcome) ∷ [] }
+    ]
+
+    go : (b : Bool) → All Kept (place b .uncommitted) × All Small (place b .answers)
+    go false = (tt, (run-small (w .fragment) cs [] e, tt))
+    go true = (((e, omega arith), tt), (run-small (w .fragment) cs [] e, tt))
+placed-fine (u ∷ us) w cs k e = go (multi (w .fragment) && oneCoordinator (w .fragment .coordinator) (u ∷ us))
+  where
+    place : Bool → Place
+    place b = elim b [
+      | false ↦ record { uncommitted = u ∷ us ++ (begun w (run (w .fragment) cs []) (Held (run (w .fragment) cs [] .outcome)) ∷ []); answers = [] }
+      | true ↦ record { uncommitted = u ∷ us ++ (begun w (run (w .fragment) cs []) Sent ∷ []); answers = answer (w .number) (nearest 0 (u ∷ us)) (run (w .fragment) cs [] .outcome) ∷ [] }
+    ]
+
+    join : (a : Reply) → length (heldOutcome a .numbers) ≤ 8 → All Kept (u ∷ us ++ (begun w (run (w .fragment) cs []) a ∷ []))
+    join a h = all-append Kept (u ∷ us) (begun w (run (w .fragment) cs []) a ∷ []) k ((e, h), tt)
+
+    go : (b : Bool) → All Kept (place b .uncommitted) × All Small (place b .answers)
+    go false = (join (Held (run (w .fragment) cs [] .outcome)) (run-small (w .fragment) cs [] e), tt)
+    go true = (join Sent (omega arith), (run-small (w .fragment) cs [] e, tt))
+
+drain-fine : (cs : Cells) (us : List Uncommitted) (ws : List Waiting) → All Kept us → All Eight ws → Fine (drain cs us ws)
+unfolding drain
+drain-fine cs us [] k e = record { uncommitted = k; waiting = tt; answers = tt }
+drain-fine cs us (w ∷ ws) k e =
+    let p : Place = placed us w (run (w .fragment) cs []) in
+    let h = placed-fine us w cs k (e .0) in
+    go (mayTake us) (h .1) (drain-fine (run (w .fragment) cs [] .cells) (p .uncommitted) ws (h .0) (e .1))
+  where
+    q : Queues
+    q = drain (run (w .fragment) cs [] .cells) (placed us w (run (w .fragment) cs []) .uncommitted) ws
+
+    go : (b : Bool) → All Small (placed us w (run (w .fragment) cs []) .answers) → Fine q
+        → Fine (elim b [ false ↦ record { cells = cs; uncommitted = us; waiting = w ∷ ws; answers = [] } | true ↦ sending (placed us w (run (w .fragment) cs []) .answers) q ])
+    go false s f = record { uncommitted = k; waiting = e; answers = tt }
+    go true s f = record { uncommitted = f .uncommitted; waiting = f .waiting; answers = all-append Small (placed us w (run (w .fragment) cs []) .answers) (q .answers) s (f .answers) }
+
+sending-fine : (l : List Answer) (q : Queues) → All Small l → Fine q → Fine (sending l q)
+sending-fine l q s f = record { uncommitted = f .uncommitted; waiting = f .waiting; answers = all-append Small l (q .answers) s (f .answers) }
+
+held-small : (u : Uncommitted) → Fit u → All Small (heldBy u)
+held-small u h = go (u .reply) h
+  where
+    go : (a : Reply) → length (heldOutcome a .numbers) ≤ 8 → All Small (elim a [ Held o ↦ answer (u .number) 0 o ∷ [] | Sent ↦ [] | NoReply ↦ [] ])
+    go (Held o) h = (h, tt)
+    go Sent h = tt
+    go NoReply h = tt
+
+settled-fine : (us : List Uncommitted) → All Kept us → All Kept (settled us .uncommitted) × All Small (settled us .answers)
+unfolding settled
+settled-fine [] k = (tt, tt)
+settled-fine (u ∷ us) k = go (multi (u .first)) (settled-fine us (k .1))
+  where
+    place : Bool → Place
+    place b = elim b [
+      | true ↦ record { uncommitted = sent u ∷ us; answers = heldBy u }
+      | false ↦ record { uncommitted = settled us .uncommitted; answers = heldBy u ++ settled us .answers }
+    ]
+
+    go : (b : Bool) → All Kept (settled us .uncommitted) × All Small (settled us .answers) → All Kept (place b .uncommitted) × All Small (place b .answers)
+    go true x = (((k .0 .0, omega arith), k .1), held-small u (k .0 .1))
+    go false x = (x .0, all-append Small (heldBy u) (settled us .answers) (held-small u (k .0 .1)) (x .1))
+
+pub rows-eight : (us : List Uncommitted) (ws : List Waiting) → All Kept us → All Eight ws → All Eight (liveRows us ws)
+rows-eight [] ws k e = e
+rows-eight (u ∷ us) ws k e = (k .0 .0, rows-eight us ws (k .1) e)
+
+joined-fine : (n : ℕ) (f : Fragment) (cs : Cells) (us : List Uncommitted) (ws : List Waiting) → length (f .row) ≡ 8 → All Kept us → All Eight ws → Fine (joined n f cs us ws)
+joined-fine n f cs us ws h k e =
+    let w : Waiting = record { number = n; fragment = f } in
+    drain-fine cs us (ws ++ (w ∷ [])) k (all-append Eight ws (w ∷ []) e (h, tt))
+
+arrived-fine : (n : ℕ) (f : Fragment) (cs : Cells) (us : List Uncommitted) (ws : List Waiting) → length (f .row) ≡ 8 → All Kept us → All Eight ws → Fine (arrived n f cs us ws)
+arrived-fine n f cs [] ws h k e = joined-fine n f cs [] ws h k e
+arrived-fine n f cs (u ∷ us) ws h k e = go (eqb (u .number) n)
+  where
+    r : Ran
+    r = run f cs (u .undo)
+
+    go : (b : Bool) → Fine (elim b [ false ↦ joined n f cs (u ∷ us) ws | true ↦ continued f cs u us ws ])
+    go false = joined-fine n f cs (u ∷ us) ws h k e
+    go true = sending-fine (answer (u .number) 0 (r .outcome) ∷ []) (drain (r .cells) (again u f r ∷ us) ws) (run-small f cs (u .undo) h, tt)
+        (drain-fine (r .cells) (again u f r ∷ us) ws ((k .0 .0, omega arith), k .1) e)
+
+committed-fine : (cs : Cells) (us : List Uncommitted) (ws : List Waiting) → All Kept us → All Eight ws → Fine (committed cs us ws)
+committed-fine cs [] ws k e = record { uncommitted = tt; waiting = e; answers = tt }
+committed-fine cs (u ∷ us) ws k e =
+    let x = settled-fine us (k .1) in
+    sending-fine (settled us .answers) (drain cs (settled us .uncommitted) ws) (x .1) (drain-fine cs (settled us .uncommitted) ws (x .0) e)
+
+aborted-fine : (cs : Cells) (us : List Uncommitted) (ws : List Waiting) → All Kept us → All Eight ws → Fine (aborted cs us ws)
+aborted-fine cs [] ws k e = record { uncommitted = tt; waiting = e; answers = tt }
+aborted-fine cs (u ∷ us) ws k e = drain-fine _ [] (map requeued us ++ ws) tt (rows-eight us ws (k .1) e)
+
+-- an accepted request
+pub taken-fine : (v : Event) (e : Engine) (cs : Cells) → Words v → All Kept (e .uncommitted) → All Eight (e .waiting) → Fine (taken (request v) e cs)
+taken-fine v e cs h k w = go (eqb (v .kind) 1) (eqb (v .kind) 2)
+  where
+    go : (a b : Bool) → Fine (taken (elim a [ true ↦ Arrive (v .number) (v .fragment) | false ↦ elim b [ true ↦ Commit (v .number) | false ↦ Abort (v .number) ] ]) e cs)
+    go true b = arrived-fine (v .number) (v .fragment) cs (e .uncommitted) (e .waiting) h k w
+    go false true = committed-fine cs (e .uncommitted) (e .waiting) k w
+    go false false = aborted-fine cs (e .uncommitted) (e .waiting) k w

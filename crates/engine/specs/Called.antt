@@ -1,0 +1,38 @@
+-- What a call does, of every record, event, lent cells and lent answer room: the list engine's step at the record's view.
+use Prim.Native.Nat.{ℕ, zero, suc}
+use mathlib.Core.List.{List}
+use lib.ListN.{length}
+use Rattle.model.specs.Operations.{Cells}
+use Rattle.model.specs.Refusals.{Stepped, step}
+use Rattle.model.specs.Refusals as Refusals
+use Rattle.model.specs.declared.Event.{Event}
+use Rattle.refusals.specs.Rest.{callOf}
+use Rattle.record.specs.declared.Record.{Record}
+use Rattle.record.specs.Words.{pack}
+use Rattle.record.specs.View.{view}
+use Rattle.engine.specs.declared.Called.{Called}
+use Rattle.engine.specs.declared.Fresh.{Fresh}
+
+unfoldable pub stepped : Record → Event → Cells → List ℕ → Stepped
+stepped r v cells room = step (view r) (callOf v cells room)
+
+-- "0 is accepted": then the record laid out with every unused place zero; a refusal gives the very record that came
+abbrev pub nextOf : Record → Stepped → Record
+nextOf r s = elim (s .number) [ zero ↦ pack (s .engine) | suc k ↦ r ]
+
+-- the returned number, the count of answers and the next record
+unfoldable pub called : Record → Event → Cells → List ℕ → Called
+called r v cells room =
+    let s = stepped r v cells room in
+    record { number = s .number; answers = length (s .answers); next = nextOf r s }
+
+-- the lent cells and the lent room afterwards
+abbrev pub cellsAfter : Record → Event → Cells → List ℕ → Cells
+cellsAfter r v cells room = stepped r v cells room .cells
+
+abbrev pub roomAfter : Record → Event → Cells → List ℕ → List ℕ
+roomAfter r v cells room = stepped r v cells room .room
+
+-- starting
+unfoldable pub freshOf : ℕ → Fresh
+freshOf n = record { number = Refusals.start n .number; next = pack (Refusals.start n .engine) }

@@ -1,0 +1,278 @@
+-- Reading back what a packed row holds: a transaction, a run, its entries; and the whole record: `view` of `pack` is what was packed.
+use Prim.Native.Nat.{ℕ, zero, suc, _+_, _*_, _-_, _≤_, _<_}
+use native.Mathlib.Omega.{arith}
+use borrow.Author.Tests.{leb-true}
+use mathlib.Core.Path.{_≡_, refl, sym, ap, _∙_, subst}
+use mathlib.Core.Bool.{Bool, true, false, _&&_}
+use mathlib.Core.List.{List, [], _∷_, _++_, map, append-assoc, append-nil}
+use lib.Dec.{leb}
+use lib.ListN.{length, getD, replicate, length-append, length-map, List·getD-append}
+use lib.Seq.{getD-append-add}
+use Rattle.model.specs.Operations.{Outcome}
+use Rattle.model.specs.Transactions.{State, Running, Finished, Failed, NoState, Reply, Held, Sent, NoReply, Uncommitted, Waiting, Engine, undoList}
+use Rattle.model.specs.Steps.{requeued}
+use Rattle.model.specs.Refusals.{fits, isState, isReply, sound}
+use Rattle.model.proofs.Chain.{All, all-append, all-map}
+use Rattle.model.proofs.Sound.{SoundOne, Sound, sound-parts, entries-most}
+use Rattle.model.proofs.Tests.{and-left, and-right}
+use Rattle.model.specs.declared.Op.{Op}
+use Rattle.model.specs.declared.Fragment.{Fragment}
+use Rattle.model.specs.declared.Undo.{Undo}
+use Rattle.operations.specs.Laid.{padded, flat, entriesOf}
+use Rattle.operations.proofs.Turns.{noOp, length-padded}
+use Rattle.record.specs.Words.{opsWords, rowWords, allRows, stateWord, replyWord, heldOutcome, outcomeWords, runWords, allRuns, liveRows, pack}
+use Rattle.record.specs.View.{opAt, fragmentAt, waitingOf, numbersFrom, stateOf, replyOf, memberAt, uncommittedOf, viewOf, view}
+use Rattle.record.proofs.Rows.{getD-padded, numbers-same, numbers-whole, row-words, eight}
+
+-- a stretch of a padded row
+pub block-read : (n : ℕ) (X Y Z : List ℕ) (m k : ℕ) → length X ≡ m → k < length Y → getD (padded n (X ++ (Y ++ Z))) (m + k) 0 ≡ getD Y k 0
+block-read n X Y Z m k e h =
+    getD-padded n (X ++ (Y ++ Z)) (m + k) ∙ ap (λ (x : ℕ). getD (X ++ (Y ++ Z)) (x + k) 0) (sym e) ∙ getD-append-add X (Y ++ Z) k 0 ∙ List·getD-append Y Z 0 k h
+
+-- Transactions
+
+abbrev pub Eight : Waiting → Type 0
+Eight w = length (w .fragment .row) ≡ 8
+
+pub eights-first : (a b : List Waiting) → All Eight (a ++ b) → All Eight a
+eights-first [] b h = tt
+eights-first (x ∷ a) b h = (h .0, eights-first a b (h .1))
+
+pub eights-rest : (a b : List Waiting) → All Eight (a ++ b) → All Eight b
+eights-rest [] b h = h
+eights-rest (x ∷ a) b h = eights-rest a b (h .1)
+
+length-ops : (os : List Op) → length (opsWords os) ≡ 3 * length os
+length-ops [] = omega arith
+length-ops (o ∷ os) = omega (arith, length-ops os)
+
+pub length-row : (n : ℕ) (f : Fragment) → length (f .row) ≡ 8 → length (rowWords n f) ≡ 28
+unfolding rowWords
+length-row n f h = omega (arith, length-ops (f .row))
+
+pub length-rows : (ws : List Waiting) → All Eight ws → length (allRows ws) ≡ 28 * length ws
+unfolding allRows
+length-rows [] h = omega arith
+length-rows (w ∷ ws) h = length-append (rowWords (w .number) (w .fragment)) (allRows ws) ∙ omega (arith, length-row (w .number) (w .fragment) (h .0), length-rows ws (h .1))
+
+pub rows-append : (a b : List Waiting) → allRows (a ++ b) ≡ allRows a ++ allRows b
+unfolding allRows
+rows-append [] b = refl
+rows-append (w ∷ a) b = ap (λ (x : List ℕ). rowWords (w .number) (w .fragment) ++ x) (rows-append a b) ∙ sym (append-assoc (rowWords (w .number) (w .fragment)) (allRows a) (allRows b))
+
+-- l from b on and m from c on agree on a transaction's words
+abbrev pub Agree : List ℕ → ℕ → List ℕ → ℕ → Type 0
+Agree l b m c = (k : ℕ) → k < 28 → getD l (b + k) 0 ≡ getD m (c + k) 0
+
+module _ (l : List ℕ) (b : ℕ) (m : List ℕ) (c : ℕ) (a : Agree l b m c) where
+  word-same : (x y k : ℕ) → x ≡ b + k → y ≡ c + k → k < 28 → getD l x 0 ≡ getD m y 0
+  word-same x y k ex ey h = ap (λ (z : ℕ). getD l z 0) ex ∙ a k h ∙ ap (λ (z : ℕ). getD m z 0) (sym ey)
+
+  op-same : (o : ℕ) → o + 3 ≤ 28 → opAt l (b + o) ≡ opAt m (c + o)
+  op-same o h = λ i. record {
+    code = word-same (b + o) (c + o) o refl refl (omega arith) i;
+    cell = word-same (b + o + 1) (c + o + 1) (o + 1) (omega arith) (omega arith) (omega arith) i;
+    amount = word-same (b + o + 2) (c + o + 2) (o + 2) (omega arith) (omega arith) (omega arith) i;
+  }
+
+  pub fragment-same : fragmentAt l b ≡ fragmentAt m c
+  unfolding fragmentAt
+  fragment-same = λ i. record {
+    flags = a 1 (omega arith) i;
+    coordinator = a 2 (omega arith) i;
+    count = a 3 (omega arith) i;
+    row = op-same 4 (omega arith) i ∷ op-same 7 (omega arith) i ∷ op-same 10 (omega arith) i ∷ op-same 13 (omega arith) i ∷ op-same 16 (omega arith) i ∷ op-same 19 (omega arith) i ∷ op-same 22 (omega arith) i ∷ op-same 25 (omega arith) i ∷ [];
+  }
+
+fragment-of-words : (n : ℕ) (f : Fragment) → length (f .row) ≡ 8 → fragmentAt (rowWords n f) 0 ≡ f
+unfolding fragmentAt
+fragment-of-words n f h =
+    ap (λ (x : List ℕ). fragmentAt x 0) (sym (row-words n f h)) ∙ (λ i. record { flags = f .flags; coordinator = f .coordinator; count = f .count; row = eight (f .row) h i })
+
+module _ (n : ℕ) (A : List Waiting) (t : Waiting) (B : List Waiting) (b : ℕ) (ea : All Eight A) (et : Eight t) (eb : 28 * length A ≡ b) where
+  pub row-read : (k : ℕ) → k < 28 → getD (padded n (allRows (A ++ t ∷ B))) (b + k) 0 ≡ getD (rowWords (t .number) (t .fragment)) k 0
+  unfolding allRows
+  row-read k h =
+      ap (λ (x : List ℕ). getD (padded n x) (b + k) 0) (rows-append A (t ∷ B))
+      ∙ block-read n (allRows A) (rowWords (t .number) (t .fragment)) (allRows B) b k (length-rows A ea ∙ eb) (subst (λ (x : ℕ). k < x) (sym (length-row (t .number) (t .fragment) et)) h)
+
+  pub fragment-back : fragmentAt (padded n (allRows (A ++ t ∷ B))) b ≡ t .fragment
+  fragment-back =
+      fragment-same (padded n (allRows (A ++ t ∷ B))) b (rowWords (t .number) (t .fragment)) 0 (λ k h. row-read k h ∙ (let z : k ≡ 0 + k = omega arith in ap (λ (x : ℕ). getD (rowWords (t .number) (t .fragment)) x 0) z))
+      ∙ fragment-of-words (t .number) (t .fragment) et
+
+  pub number-back : getD (padded n (allRows (A ++ t ∷ B))) b 0 ≡ t .number
+  unfolding rowWords
+  number-back = (let z : b ≡ b + 0 = omega arith in ap (λ (x : ℕ). getD (padded n (allRows (A ++ t ∷ B))) x 0) z) ∙ row-read 0 (omega arith)
+
+pub waiting-back : (n : ℕ) (A ws : List Waiting) (b : ℕ) → All Eight A → All Eight ws → 28 * length A ≡ b → waitingOf (padded n (allRows (A ++ ws))) b (length ws) ≡ ws
+unfolding waitingOf
+waiting-back n A [] b ea ew e = refl
+waiting-back n A (w ∷ ws) b ea ew e =
+    let l : (A ++ (w ∷ [])) ++ ws ≡ A ++ w ∷ ws = append-assoc A (w ∷ []) ws in
+    let rest : waitingOf (padded n (allRows (A ++ w ∷ ws))) (b + 28) (length ws) ≡ ws =
+    ap (λ (x : List Waiting). waitingOf (padded n (allRows x)) (b + 28) (length ws)) (sym l)
+    ∙ waiting-back n (A ++ (w ∷ [])) ws (b + 28) (all-append Eight A (w ∷ []) ea (ew .0, tt)) (ew .1) (omega (arith, length-append A (w ∷ []))) in
+    λ i. record { number = number-back n A w ws b ea (ew .0) e i; fragment = fragment-back n A w ws b ea (ew .0) e i } ∷ rest i
+
+-- Runs
+
+abbrev pub Fit : Uncommitted → Type 0
+Fit u = length (heldOutcome (u .reply) .numbers) ≤ 8
+
+pub length-run : (u : Uncommitted) → Fit u → length (runWords u) ≡ 16
+unfolding runWords
+length-run u h =
+    let ns : List ℕ = padded 8 (heldOutcome (u .reply) .numbers) in
+    omega (arith, length-append ns (0 ∷ 0 ∷ []), length-padded 8 (heldOutcome (u .reply) .numbers) h)
+
+pub length-runs : (us : List Uncommitted) → All Fit us → length (allRuns us) ≡ 16 * length us
+unfolding allRuns
+length-runs [] h = omega arith
+length-runs (u ∷ us) h = length-append (runWords u) (allRuns us) ∙ omega (arith, length-run u (h .0), length-runs us (h .1))
+
+pub runs-append : (a b : List Uncommitted) → allRuns (a ++ b) ≡ allRuns a ++ allRuns b
+unfolding allRuns
+runs-append [] b = refl
+runs-append (u ∷ a) b = ap (λ (x : List ℕ). runWords u ++ x) (runs-append a b) ∙ sym (append-assoc (runWords u) (allRuns a) (allRuns b))
+
+pub run-read : (n : ℕ) (P : List Uncommitted) (u : Uncommitted) (Q : List Uncommitted) (c k : ℕ) → All Fit P → Fit u → 16 * length P ≡ c → k < 16
+    → getD (padded n (allRuns (P ++ u ∷ Q))) (c + k) 0 ≡ getD (runWords u) k 0
+unfolding allRuns
+run-read n P u Q c k ep eu e h =
+    ap (λ (x : List ℕ). getD (padded n x) (c + k) 0) (runs-append P (u ∷ Q))
+    ∙ block-read n (allRuns P) (runWords u) (allRuns Q) c k (length-runs P ep ∙ e) (subst (λ (x : ℕ). k < x) (sym (length-run u eu)) h)
+
+-- Entries
+
+pub undo-append : (a b : List Uncommitted) → undoList (a ++ b) ≡ undoList a ++ undoList b
+undo-append [] b = refl
+undo-append (u ∷ a) b = ap (λ (x : List Undo). u .undo ++ x) (undo-append a b) ∙ sym (append-assoc (u .undo) (undoList a) (undoList b))
+
+pub flat-append : (a b : List Undo) → flat (a ++ b) ≡ flat a ++ flat b
+flat-append [] b = refl
+flat-append (u ∷ a) b = ap {B = List ℕ} (λ (x : List ℕ). u .cell ∷ u .old ∷ x) (flat-append a b)
+
+pub length-flat : (us : List Undo) → length (flat us) ≡ 2 * length us
+length-flat [] = omega arith
+length-flat (u ∷ us) = omega (arith, length-flat us)
+
+pub entries-back : (n : ℕ) (a us b : List Undo) (d : ℕ) → 2 * length a ≡ d → entriesOf (padded n (flat (a ++ (us ++ b)))) d (length us) ≡ us
+unfolding entriesOf
+entries-back n a [] b d e = refl
+entries-back n a (u ∷ us) b d e =
+    let more : List ℕ = u .cell ∷ u .old ∷ [] in
+    let l : List ℕ = padded n (flat (a ++ (u ∷ us ++ b))) in
+    let la : length (flat a) ≡ d = length-flat a ∙ e in
+    let s : flat (a ++ (u ∷ us ++ b)) ≡ flat a ++ (more ++ flat (us ++ b)) = flat-append a (u ∷ us ++ b) in
+    let z : d ≡ d + 0 = omega arith in
+    let here : getD l d 0 ≡ u .cell = ap (λ (x : ℕ). getD l x 0) z ∙ ap (λ (x : List ℕ). getD (padded n x) (d + 0) 0) s ∙ block-read n (flat a) more (flat (us ++ b)) d 0 la (omega arith) in
+    let there : getD l (d + 1) 0 ≡ u .old = ap (λ (x : List ℕ). getD (padded n x) (d + 1) 0) s ∙ block-read n (flat a) more (flat (us ++ b)) d 1 la (omega arith) in
+    let whole : (a ++ (u ∷ [])) ++ (us ++ b) ≡ a ++ (u ∷ us ++ b) = append-assoc a (u ∷ []) (us ++ b) in
+    let rest : entriesOf l (d + 2) (length us) ≡ us =
+    ap (λ (x : List Undo). entriesOf (padded n (flat x)) (d + 2) (length us)) (sym whole) ∙ entries-back n (a ++ (u ∷ [])) us b (d + 2) (omega (arith, length-append a (u ∷ []))) in
+    λ i. record { cell = here i; old = there i } ∷ rest i
+
+-- Members
+
+pub state-back : (s : State) → isState s ≡ true → stateOf (stateWord s) ≡ s
+state-back Running h = refl
+state-back Finished h = refl
+state-back Failed h = refl
+state-back NoState h = absurd (mathlib.Core.Bool.true≢false (sym h))
+
+numbers-run : (u : Uncommitted) → Fit u → numbersFrom (runWords u) 6 (length (heldOutcome (u .reply) .numbers)) ≡ heldOutcome (u .reply) .numbers
+unfolding runWords
+numbers-run u h =
+    let ns : List ℕ = heldOutcome (u .reply) .numbers in
+    numbers-same (runWords u) ns 6 0 (length ns)
+    (λ k hk. getD-append-add (u .ran ∷ stateWord (u .state) ∷ replyWord (u .reply) ∷ length (u .undo) ∷ heldOutcome (u .reply) .place ∷ length ns ∷ []) (padded 8 ns ++ (0 ∷ 0 ∷ [])) k 0
+    ∙ List·getD-append (padded 8 ns) (0 ∷ 0 ∷ []) 0 k (omega (arith, length-padded 8 ns h)) ∙ getD-padded 8 ns k ∙ (let z : k ≡ 0 + k = omega arith in ap (λ (x : ℕ). getD ns x 0) z))
+    ∙ numbers-whole ns
+
+reply-back : (a : Reply) → isReply a ≡ true → replyOf (replyWord a) (record { place = heldOutcome a .place; numbers = heldOutcome a .numbers }) ≡ a
+reply-back (Held o) h = refl
+reply-back Sent h = refl
+reply-back NoReply h = absurd (mathlib.Core.Bool.true≢false (sym h))
+
+-- n numbers of a run, read through the row that holds it
+module _ (n : ℕ) (P : List Uncommitted) (u : Uncommitted) (Q : List Uncommitted) (c : ℕ) (ep : All Fit P) (eu : Fit u) (e : 16 * length P ≡ c) where
+  pub word-back : (k : ℕ) → k < 16 → getD (padded n (allRuns (P ++ u ∷ Q))) (c + k) 0 ≡ getD (runWords u) k 0
+  word-back k h = run-read n P u Q c k ep eu e h
+
+  pub outcome-back : isReply (u .reply) ≡ true
+      → replyOf (getD (padded n (allRuns (P ++ u ∷ Q))) (c + 2) 0) (record { place = getD (padded n (allRuns (P ++ u ∷ Q))) (c + 4) 0; numbers = numbersFrom (padded n (allRuns (P ++ u ∷ Q))) (c + 6) (getD (padded n (allRuns (P ++ u ∷ Q))) (c + 5) 0) }) ≡ u .reply
+  unfolding runWords
+  outcome-back h =
+      let ns : List ℕ = heldOutcome (u .reply) .numbers in
+      let l : List ℕ = padded n (allRuns (P ++ u ∷ Q)) in
+      let w2 : getD l (c + 2) 0 ≡ replyWord (u .reply) = word-back 2 (omega arith) in
+      let w4 : getD l (c + 4) 0 ≡ heldOutcome (u .reply) .place = word-back 4 (omega arith) in
+      let w5 : getD l (c + 5) 0 ≡ length ns = word-back 5 (omega arith) in
+      let read : numbersFrom l (c + 6) (getD l (c + 5) 0) ≡ ns =
+      ap (numbersFrom l (c + 6)) w5
+      ∙ numbers-same l (runWords u) (c + 6) 6 (length ns) (λ k hk. (let z : c + 6 + k ≡ c + (6 + k) = omega arith in ap (λ (x : ℕ). getD l x 0) z) ∙ word-back (6 + k) (omega arith))
+      ∙ numbers-run u eu in
+      (λ i. replyOf (w2 i) (record { place = w4 i; numbers = read i })) ∙ reply-back (u .reply) h
+
+abbrev pub Known : Uncommitted → Type 0
+Known u = Fit u × (isState (u .state) ≡ true) × (isReply (u .reply) ≡ true)
+
+known-fits : (us : List Uncommitted) → All Known us → All Fit us
+known-fits us h = all-map Known Fit (λ u k. k .0) us h
+
+-- us read back, behind A in the live row, behind P in the runs and in the undo row
+pub members-back : (nl nr nu : ℕ) (A : List Waiting) (P us : List Uncommitted) (ws : List Waiting) (b c d : ℕ) → All Eight A → All Eight (liveRows us ws) → All Known P → All Known us
+    → 28 * length A ≡ b → 16 * length P ≡ c → 2 * length (undoList P) ≡ d
+    → uncommittedOf (padded nl (allRows (A ++ liveRows us ws))) b (padded nr (allRuns (P ++ us))) c (padded nu (flat (undoList (P ++ us)))) d (length us) ≡ us
+unfolding uncommittedOf memberAt runWords
+members-back nl nr nu A P [] ws b c d ea el kp ku eb ec ed = refl
+members-back nl nr nu A P (u ∷ us) ws b c d ea el kp ku eb ec ed =
+    let live : List ℕ = padded nl (allRows (A ++ liveRows (u ∷ us) ws)) in
+    let runs : List ℕ = padded nr (allRuns (P ++ u ∷ us)) in
+    let undo : List ℕ = padded nu (flat (undoList (P ++ u ∷ us))) in
+    let fp : All Fit P = known-fits P kp in
+    let w0 : getD runs c 0 ≡ u .ran = (let z : c ≡ c + 0 = omega arith in ap (λ (x : ℕ). getD runs x 0) z) ∙ run-read nr P u us c 0 fp (ku .0 .0) ec (omega arith) in
+    let w1 : getD runs (c + 1) 0 ≡ stateWord (u .state) = run-read nr P u us c 1 fp (ku .0 .0) ec (omega arith) in
+    let w3 : getD runs (c + 3) 0 ≡ length (u .undo) = run-read nr P u us c 3 fp (ku .0 .0) ec (omega arith) in
+    let own : entriesOf undo d (getD runs (c + 3) 0) ≡ u .undo =
+    ap (entriesOf undo d) w3 ∙ ap (λ (x : List Undo). entriesOf (padded nu (flat x)) d (length (u .undo))) (undo-append P (u ∷ us)) ∙ entries-back nu (undoList P) (u .undo) (undoList us) d ed in
+    let lA : (A ++ (requeued u ∷ [])) ++ liveRows us ws ≡ A ++ liveRows (u ∷ us) ws = append-assoc A (requeued u ∷ []) (liveRows us ws) in
+    let lP : (P ++ (u ∷ [])) ++ us ≡ P ++ u ∷ us = append-assoc P (u ∷ []) us in
+    let d′ : d + 2 * getD runs (c + 3) 0 ≡ 2 * length (undoList (P ++ (u ∷ []))) =
+    omega (arith, ed, w3, ap length (undo-append P (u ∷ [])), length-append (undoList P) (u .undo ++ []), length-append (u .undo) []) in
+    let rest : uncommittedOf live (b + 28) runs (c + 16) undo (d + 2 * getD runs (c + 3) 0) (length us) ≡ us =
+    (λ i. uncommittedOf (padded nl (allRows (sym lA i))) (b + 28) (padded nr (allRuns (sym lP i))) (c + 16) (padded nu (flat (undoList (sym lP i)))) (d′ i) (length us))
+    ∙ members-back nl nr nu (A ++ (requeued u ∷ [])) (P ++ (u ∷ [])) us ws (b + 28) (c + 16) (2 * length (undoList (P ++ (u ∷ [])))) (all-append Eight A (requeued u ∷ []) ea (el .0, tt)) (el .1)
+    (all-append Known P (u ∷ []) kp (ku .0, tt)) (ku .1) (omega (arith, length-append A (requeued u ∷ []))) (omega (arith, length-append P (u ∷ []))) refl in
+    λ i. record {
+      number = number-back nl A (requeued u) (liveRows us ws) b ea (el .0) eb i;
+      first = fragment-back nl A (requeued u) (liveRows us ws) b ea (el .0) eb i;
+      ran = w0 i;
+      state = (ap stateOf w1 ∙ state-back (u .state) (ku .0 .1)) i;
+      reply = outcome-back nr P u us c fp (ku .0 .0) ec (ku .0 .2) i;
+      undo = own i;
+    } ∷ rest i
+
+-- what a sound record's members are
+fit-of : (a : Reply) → fits a ≡ true → length (heldOutcome a .numbers) ≤ 8
+fit-of (Held o) h = leb-true (length (o .numbers)) 8 (and-left (leb (length (o .numbers)) 8) (leb (o .place) 8) h)
+fit-of Sent h = omega arith
+fit-of NoReply h = omega arith
+
+pub known-of : (ct : ℕ) (us : List Uncommitted) → All (SoundOne ct) us → All Known us
+known-of ct us h =
+    all-map (SoundOne ct) Known (λ u s. (fit-of (u .reply) (s .fits), and-left (isState (u .state)) (isReply (u .reply)) (s .read), and-right (isState (u .state)) (isReply (u .reply)) (s .read))) us h
+
+pub view-pack : (e : Engine) → sound e ≡ true → All Eight (liveRows (e .uncommitted) (e .waiting)) → view (pack e) ≡ e
+unfolding viewOf pack
+view-pack e h el =
+    let us : List Uncommitted = e .uncommitted in
+    let ws : List Waiting = e .waiting in
+    let k : All Known us = known-of (e .count) us (sound-parts e h .each) in
+    λ i. record {
+      count = e .count;
+      largest = e .largest;
+      uncommitted = members-back 1792 256 368 [] [] us ws 0 0 0 tt el tt k refl refl refl i;
+      waiting = waiting-back 1792 (map requeued us) ws (28 * length us) (eights-first (map requeued us) ws el) (eights-rest (map requeued us) ws el) (ap (λ (x : ℕ). 28 * x) (length-map us requeued)) i;
+    }

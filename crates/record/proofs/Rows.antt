@@ -1,0 +1,228 @@
+-- Laws of rows of words: laying, shifting, clearing, and reading back what was laid.
+use Prim.Native.Nat.{ℕ, zero, suc, _+_, _*_, _-_, _≤_, _<_}
+use native.Mathlib.Omega.{arith}
+use native.Mathlib.Numerals.{add-one}
+use borrow.Author.Tests.{leb-true, leb-false, ltb-true, ltb-false, eqb-true, eqb-false}
+use mathlib.Core.Path.{_≡_, refl, sym, ap, _∙_, subst}
+use mathlib.Core.Bool.{Bool, true, false}
+use lib.Dec.{leb, ltb, eqb}
+use mathlib.Core.List.{List, [], _∷_, _++_, append-assoc, append-nil}
+use lib.ListN.{length, getD, set, take, drop, replicate, length-append, length-replicate, length-set, length-take, length-drop, drop-of-length-le, List·getD-eq-default, List·getD-append, getD-replicate}
+use lib.Seq.{sets, sets-eq, length-sets, getD-set-same, getD-set-other, ext-getD, drop-cons, take-at, drop-at, drop-append-add, getD-append-add, getD-at, getD-take, getD-drop, length-take-le, take-all}
+use Rattle.model.specs.declared.Op.{Op}
+use Rattle.model.specs.declared.Fragment.{Fragment}
+use Rattle.operations.specs.Laid.{padded}
+use Rattle.operations.proofs.Turns.{noOp, length-padded}
+use Rattle.record.specs.Words.{opsWords, rowWords}
+use Rattle.record.specs.View.{opAt, fragmentAt, numbersFrom}
+
+-- one turn of laying
+pub lay-turn : (row row′ words all : List ℕ) (at n i w : ℕ) → i < n → w ≡ getD words i 0 → row′ ≡ set row (at + i) w → sets row (at + i) (numbersFrom words i (n - i)) ≡ all
+    → sets row′ (at + (i + 1)) (numbersFrom words (i + 1) (n - (i + 1))) ≡ all
+unfolding numbersFrom
+lay-turn row row′ words all at n i w h ew er inv =
+    let e : n - i ≡ suc (n - (i + 1)) = omega arith in
+    let p : at + (i + 1) ≡ suc (at + i) = omega arith in
+    ap (λ (x : List ℕ). sets x (at + (i + 1)) (numbersFrom words (i + 1) (n - (i + 1)))) (er ∙ ap (set row (at + i)) ew)
+    ∙ ap (λ (x : ℕ). sets (set row (at + i) (getD words i 0)) x (numbersFrom words (i + 1) (n - (i + 1)))) p
+    ∙ ap (λ (x : ℕ). sets row (at + i) (numbersFrom words i x)) (sym e) ∙ inv
+
+pub lay-start : (row words : List ℕ) (at n : ℕ) → sets row (at + 0) (numbersFrom words 0 (n - 0)) ≡ sets row at (numbersFrom words 0 n)
+lay-start row words at n =
+    let a : at + 0 ≡ at = omega arith in
+    let b : n - 0 ≡ n = omega arith in
+    λ j. sets row (a j) (numbersFrom words 0 (b j))
+
+pub lay-end : (row words all : List ℕ) (at n i : ℕ) → n ≤ i → sets row (at + i) (numbersFrom words i (n - i)) ≡ all → row ≡ all
+unfolding numbersFrom
+lay-end row words all at n i h inv =
+    let e : n - i ≡ 0 = omega arith in
+    sym (ap (λ (x : ℕ). sets row (at + i) (numbersFrom words i x)) e) ∙ inv
+
+abbrev pub zeros : ℕ → List ℕ
+zeros n = replicate n 0
+
+-- reading what a row holds
+
+pub getD-padded : (n : ℕ) (l : List ℕ) (x : ℕ) → getD (padded n l) x 0 ≡ getD l x 0
+unfolding padded
+getD-padded n [] x = go (n - 0) x
+  where
+    go : (m x : ℕ) → _≡_ {A = ℕ} (getD (zeros m) x 0) 0
+    go zero x = refl
+    go (suc m) zero = refl
+    go (suc m) (suc x) = go m x
+getD-padded n (a ∷ l) zero = refl
+getD-padded n (a ∷ l) (suc x) =
+    let e : n - suc (length l) ≡ (n - 1) - length l = omega arith in
+    ap (λ (m : ℕ). getD (l ++ replicate m 0) x 0) e ∙ getD-padded (n - 1) l x
+
+pub length-numbers : (l : List ℕ) (b n : ℕ) → length (numbersFrom l b n) ≡ n
+unfolding numbersFrom
+length-numbers l b zero = refl
+length-numbers l b (suc n) = ap suc (length-numbers l (b + 1) n)
+
+-- rows that agree from b and c on
+pub numbers-same : (l m : List ℕ) (b c n : ℕ) → ((k : ℕ) → k < n → getD l (b + k) 0 ≡ getD m (c + k) 0) → numbersFrom l b n ≡ numbersFrom m c n
+unfolding numbersFrom
+numbers-same l m b c zero h = refl
+numbers-same l m b c (suc n) h =
+    let z : b + 0 ≡ b = omega arith in
+    let y : c + 0 ≡ c = omega arith in
+    let first : getD l b 0 ≡ getD m c 0 = ap (λ (x : ℕ). getD l x 0) (sym z) ∙ h 0 (omega arith) ∙ ap (λ (x : ℕ). getD m x 0) y in
+    let rest : (k : ℕ) → k < n → getD l (b + 1 + k) 0 ≡ getD m (c + 1 + k) 0 =
+    λ k hk. (let p : b + 1 + k ≡ b + suc k = omega arith in ap (λ (x : ℕ). getD l x 0) p) ∙ h (suc k) (omega arith) ∙ (let p : c + suc k ≡ c + 1 + k = omega arith in ap (λ (x : ℕ). getD m x 0) p) in
+    λ i. first i ∷ numbers-same l m (b + 1) (c + 1) n rest i
+
+-- the whole of a list
+pub numbers-whole : (l : List ℕ) → numbersFrom l 0 (length l) ≡ l
+unfolding numbersFrom
+numbers-whole l = go [] l 0 refl
+  where
+    go : (p q : List ℕ) (b : ℕ) → length p ≡ b → numbersFrom (p ++ q) b (length q) ≡ q
+    go p [] b e = refl
+    go p (x ∷ q) b e =
+        let here : getD (p ++ x ∷ q) b 0 ≡ x = getD-at p x q 0 b e in
+        let l : (p ++ (x ∷ [])) ++ q ≡ p ++ x ∷ q = append-assoc p (x ∷ []) q in
+        let m : length (p ++ (x ∷ [])) ≡ b + 1 = length-append p (x ∷ []) ∙ ap (λ (y : ℕ). y + 1) e in
+        λ i. here i ∷ (ap (λ (y : List ℕ). numbersFrom y (b + 1) (length q)) (sym l) ∙ go (p ++ (x ∷ [])) q (b + 1) m) i
+
+-- the list at the start of a padded row
+pub numbers-padded : (n : ℕ) (l : List ℕ) (m : ℕ) → length l ≡ m → numbersFrom (padded n l) 0 m ≡ l
+numbers-padded n l m e = ap (numbersFrom (padded n l) 0) (sym e) ∙ numbers-same (padded n l) l 0 0 (length l) (λ k h. getD-padded n l (0 + k)) ∙ numbers-whole l
+
+-- what stands past the list of a padded row
+pub numbers-past : (n : ℕ) (g l : List ℕ) (k m : ℕ) → length g ≡ k → numbersFrom (padded n (g ++ l)) k m ≡ numbersFrom l 0 m
+numbers-past n g l k m e =
+    numbers-same (padded n (g ++ l)) l k 0 m
+    (λ j h. getD-padded n (g ++ l) (k + j) ∙ ap (λ (x : ℕ). getD (g ++ l) (x + j) 0) (sym e) ∙ getD-append-add g l j 0 ∙ (let z : j ≡ 0 + j = omega arith in ap (λ (x : ℕ). getD l x 0) z))
+
+-- a row is known by its numbers
+pub padded-of : (n : ℕ) (row l : List ℕ) → length row ≡ n → length l ≤ n → ((x : ℕ) → x < n → getD row x 0 ≡ getD l x 0) → row ≡ padded n l
+padded-of n row l e h f = ext-getD 0 row (padded n l) (e ∙ sym (length-padded n l h)) (λ x k. f x (omega arith) ∙ sym (getD-padded n l x))
+
+-- words laid behind the list of a padded row
+pub lay-padded : (n : ℕ) (l w : List ℕ) (at : ℕ) → length l ≡ at → at + length w ≤ n → sets (padded n l) at w ≡ padded n (l ++ w)
+unfolding padded
+lay-padded n l w at e h =
+    let z : List ℕ = zeros (n - length l) in
+    let lz : length z ≡ n - length l = length-replicate (n - length l) 0 in
+    let whole : length (l ++ z) ≡ n = length-append l z ∙ omega arith in
+    let rest : drop (at + length w) (l ++ z) ≡ drop (length w) z = ap (λ (x : ℕ). drop (x + length w) (l ++ z)) (sym e) ∙ drop-append-add l z (length w) in
+    let m : n - length l ≡ length w + (n - length (l ++ w)) = omega (arith, length-append l w) in
+    let cut : drop (length w) z ≡ zeros (n - length (l ++ w)) = ap (λ (x : ℕ). drop (length w) (zeros x)) m ∙ zeros-drop (length w) (n - length (l ++ w)) in
+    sets-eq w (l ++ z) at (omega arith) ∙ (λ i. take-at l z at e i ++ w ++ (rest ∙ cut) i)
+  where
+    zeros-drop : (a b : ℕ) → drop a (zeros (a + b)) ≡ zeros b
+    zeros-drop zero b = let z : 0 + b ≡ b = omega arith in ap zeros z
+    zeros-drop (suc a) b = let z : suc a + b ≡ suc (a + b) = omega arith in ap (λ (x : ℕ). drop (suc a) (zeros x)) z ∙ zeros-drop a b
+
+-- Runs of stores, one by one
+
+pub numbers-snoc : (l : List ℕ) (b n : ℕ) → numbersFrom l b (suc n) ≡ numbersFrom l b n ++ (getD l (b + n) 0 ∷ [])
+unfolding numbersFrom
+numbers-snoc l b zero = let z : b ≡ b + 0 = omega arith in ap {B = List ℕ} (λ (x : ℕ). getD l x 0 ∷ []) z
+numbers-snoc l b (suc n) =
+    let z : b + 1 + n ≡ b + suc n = omega arith in
+    ap {B = List ℕ} (λ (x : List ℕ). getD l b 0 ∷ x) (numbers-snoc l (b + 1) n ∙ ap (λ (x : ℕ). numbersFrom l (b + 1) n ++ (getD l x 0 ∷ [])) z)
+
+sets-snoc : (l : List ℕ) (i : ℕ) (ws : List ℕ) (w : ℕ) → sets l i (ws ++ (w ∷ [])) ≡ set (sets l i ws) (i + length ws) w
+sets-snoc l i [] w = let z : i ≡ i + 0 = omega arith in ap (λ (x : ℕ). set l x w) z
+sets-snoc l i (a ∷ ws) w = let z : suc i + length ws ≡ i + suc (length ws) = omega arith in sets-snoc (set l i a) (suc i) ws w ∙ ap (λ (x : ℕ). set (sets (set l i a) (suc i) ws) x w) z
+
+pub getD-sets-after : (l : List ℕ) (i : ℕ) (ws : List ℕ) (x : ℕ) → i + length ws ≤ x → getD (sets l i ws) x 0 ≡ getD l x 0
+getD-sets-after l i [] x h = refl
+getD-sets-after l i (a ∷ ws) x h = getD-sets-after (set l i a) (suc i) ws x (omega arith) ∙ getD-set-other l i x a 0 (λ e. omega arith)
+
+pub getD-sets-in : (l ws : List ℕ) (x : ℕ) → length ws ≤ length l → x < length ws → getD (sets l 0 ws) x 0 ≡ getD ws x 0
+getD-sets-in l ws x h k =
+    ap (λ (y : List ℕ). getD y x 0) (sets-eq ws l 0 (omega arith) ∙ append-assoc [] ws (drop (0 + length ws) l)) ∙ List·getD-append ws (drop (0 + length ws) l) 0 x k
+
+pub getD-numbers : (l : List ℕ) (b n x : ℕ) → x < n → getD (numbersFrom l b n) x 0 ≡ getD l (b + x) 0
+unfolding numbersFrom
+getD-numbers l b zero x h = absurd (omega arith)
+getD-numbers l b (suc n) zero h = let z : b ≡ b + 0 = omega arith in ap (λ (y : ℕ). getD l y 0) z
+getD-numbers l b (suc n) (suc x) h = let z : b + 1 + x ≡ b + suc x = omega arith in getD-numbers l (b + 1) n x (omega arith) ∙ ap (λ (y : ℕ). getD l y 0) z
+
+-- one turn of shifting: place k + i has not been written yet
+pub shift-turn : (row₀ row row′ : List ℕ) (k i w : ℕ) → row ≡ sets row₀ 0 (numbersFrom row₀ k i) → w ≡ getD row (k + i) 0 → row′ ≡ set row i w → row′ ≡ sets row₀ 0 (numbersFrom row₀ k (i + 1))
+shift-turn row₀ row row′ k i w inv ew er =
+    let li : length (numbersFrom row₀ k i) ≡ i = length-numbers row₀ k i in
+    let old : w ≡ getD row₀ (k + i) 0 = ew ∙ ap (λ (x : List ℕ). getD x (k + i) 0) inv ∙ getD-sets-after row₀ 0 (numbersFrom row₀ k i) (k + i) (omega arith) in
+    let at : 0 + length (numbersFrom row₀ k i) ≡ i = omega arith in
+    er ∙ (λ j. set (inv j) i (old j))
+    ∙ ap (λ (x : ℕ). set (sets row₀ 0 (numbersFrom row₀ k i)) x (getD row₀ (k + i) 0)) (sym at)
+    ∙ sym (sets-snoc row₀ 0 (numbersFrom row₀ k i) (getD row₀ (k + i) 0))
+    ∙ ap (sets row₀ 0) (sym (numbers-snoc row₀ k i)) ∙ ap (λ (x : ℕ). sets row₀ 0 (numbersFrom row₀ k x)) (sym (add-one i))
+
+-- the front g of a padded row shifted out
+pub shift-padded : (n : ℕ) (g l : List ℕ) (k m : ℕ) → length g ≡ k → length (g ++ l) ≡ m → m ≤ n → sets (padded n (g ++ l)) 0 (numbersFrom (padded n (g ++ l)) k m) ≡ padded n l
+shift-padded n g l k m e em h =
+    padded-of n (sets row 0 new) l (length-sets row 0 new ∙ whole) (omega (arith, length-append g l)) (λ x hx. go x (leb m x) refl)
+  where
+    row : List ℕ
+    row = padded n (g ++ l)
+
+    new : List ℕ
+    new = numbersFrom (padded n (g ++ l)) k m
+
+    whole : length (padded n (g ++ l)) ≡ n
+    whole = length-padded n (g ++ l) (omega arith)
+
+    ln : length (numbersFrom (padded n (g ++ l)) k m) ≡ m
+    ln = length-numbers (padded n (g ++ l)) k m
+
+    go : (x : ℕ) (b : Bool) → leb m x ≡ b → getD (sets (padded n (g ++ l)) 0 (numbersFrom (padded n (g ++ l)) k m)) x 0 ≡ getD l x 0
+    go x true c =
+        let y : m ≤ x = leb-true m x c in
+        getD-sets-after row 0 new x (omega (arith, ln)) ∙ getD-padded n (g ++ l) x ∙ List·getD-eq-default (g ++ l) 0 {n = x} (omega arith) ∙ sym (List·getD-eq-default l 0 {n = x} (omega (arith, length-append g l)))
+    go x false c =
+        let y : x < m = leb-false m x c in
+        let z : 0 + x ≡ x = omega arith in
+        getD-sets-in row new x (omega (arith, ln, whole)) (omega (arith, ln)) ∙ ap (λ (q : List ℕ). getD q x 0) (numbers-past n g l k m e) ∙ getD-numbers l 0 m x y ∙ ap (λ (q : ℕ). getD l q 0) z
+
+-- one turn of clearing, and its end
+pub record Cleared (row₀ row : List ℕ) (n i : ℕ) : Type 0 where
+  pub size : length row ≡ length row₀
+  pub below : (x : ℕ) → x < n → getD row x 0 ≡ getD row₀ x 0
+  pub past : (x : ℕ) → n ≤ x → x < i → getD row x 0 ≡ 0
+
+pub clear-turn : (row₀ row : List ℕ) (n i : ℕ) → n ≤ i → i < length row → Cleared row₀ row n i → Cleared row₀ (set row i 0) n (i + 1)
+clear-turn row₀ row n i h k c = record {
+  size = length-set row i 0 ∙ c .size;
+  below = λ x hx. getD-set-other row i x 0 0 (λ e. omega arith) ∙ c .below x hx;
+  past = λ x hn hx. go x hn hx (eqb x i) refl;
+}
+  where
+    go : (x : ℕ) → n ≤ x → x < i + 1 → (b : Bool) → eqb x i ≡ b → getD (set row i 0) x 0 ≡ 0
+    go x hn hx true e = let y : x ≡ i = eqb-true x i e in ap (λ (q : ℕ). getD (set row i 0) q 0) y ∙ getD-set-same row i 0 0 k
+    go x hn hx false e = getD-set-other row i x 0 0 (eqb-false x i e) ∙ c .past x hn (let z : x ≡ i → ⊥ = eqb-false x i e in omega arith)
+
+pub clear-end : (row₀ row : List ℕ) (n i : ℕ) → length row ≤ i → Cleared row₀ row n i → row ≡ padded (length row₀) (take n row₀)
+clear-end row₀ row n i h c = padded-of (length row₀) row (take n row₀) (c .size) (omega (arith, length-take n row₀)) (λ x hx. go x hx (ltb x n) refl)
+  where
+    go : (x : ℕ) → x < length row₀ → (b : Bool) → ltb x n ≡ b → getD row x 0 ≡ getD (take n row₀) x 0
+    go x hx true e = let y : x < n = ltb-true x n e in c .below x y ∙ sym (getD-take n row₀ x 0 y)
+    go x hx false e =
+        let y : n ≤ x = ltb-false x n e in
+        c .past x y (omega (arith, c .size)) ∙ sym (List·getD-eq-default (take n row₀) 0 {n = x} (omega (arith, length-take n row₀)))
+
+-- Rows of operations
+
+pub eight : (o : List Op) → length o ≡ 8 → getD o 0 noOp ∷ getD o 1 noOp ∷ getD o 2 noOp ∷ getD o 3 noOp ∷ getD o 4 noOp ∷ getD o 5 noOp ∷ getD o 6 noOp ∷ getD o 7 noOp ∷ [] ≡ o
+eight o h =
+    let e : drop 8 o ≡ [] = drop-of-length-le o {i = 8} (omega arith) in
+    sym (drop-cons o 0 noOp (omega arith) ∙ ap (λ (v : List Op). getD o 0 noOp ∷ v) (drop-cons o 1 noOp (omega arith)
+    ∙ ap (λ (v : List Op). getD o 1 noOp ∷ v) (drop-cons o 2 noOp (omega arith)
+    ∙ ap (λ (v : List Op). getD o 2 noOp ∷ v) (drop-cons o 3 noOp (omega arith)
+    ∙ ap (λ (v : List Op). getD o 3 noOp ∷ v) (drop-cons o 4 noOp (omega arith)
+    ∙ ap (λ (v : List Op). getD o 4 noOp ∷ v) (drop-cons o 5 noOp (omega arith)
+    ∙ ap (λ (v : List Op). getD o 5 noOp ∷ v) (drop-cons o 6 noOp (omega arith)
+    ∙ ap (λ (v : List Op). getD o 6 noOp ∷ v) (drop-cons o 7 noOp (omega arith)
+    ∙ ap (λ (v : List Op). getD o 7 noOp ∷ v) e))))))))
+
+-- the words of a row whose eight operations are taken one by one
+pub row-words : (n : ℕ) (f : Fragment) → length (f .row) ≡ 8
+    → n ∷ f .flags ∷ f .coordinator ∷ f .count ∷ opsWords (getD (f .row) 0 noOp ∷ getD (f .row) 1 noOp ∷ getD (f .row) 2 noOp ∷ getD (f .row) 3 noOp ∷ getD (f .row) 4 noOp ∷ getD (f .row) 5 noOp ∷ getD (f .row) 6 noOp ∷ getD (f .row) 7 noOp ∷ []) ≡ rowWords n f
+unfolding rowWords
+row-words n f h = ap {B = List ℕ} (λ (x : List Op). n ∷ f .flags ∷ f .coordinator ∷ f .count ∷ opsWords x) (eight (f .row) h)

@@ -1,0 +1,69 @@
+-- What a record of any words means: `view` reads it as lists. A read past a row's end gives 0.
+use Prim.Native.Nat.{ℕ, zero, suc, _+_, _*_}
+use mathlib.Core.List.{List, [], _∷_}
+use lib.Dec.{eqb}
+use lib.ListN.{getD}
+use Rattle.model.specs.Operations.{Outcome, pick}
+use Rattle.model.specs.Transactions.{State, Running, Finished, Failed, NoState, Reply, Held, Sent, NoReply, Uncommitted, Waiting, Engine}
+use Rattle.model.specs.declared.Op.{Op}
+use Rattle.model.specs.declared.Fragment.{Fragment}
+use Rattle.operations.specs.Laid.{entriesOf}
+use Rattle.record.specs.declared.Record.{Record}
+
+-- the operation whose words start at b
+abbrev pub opAt : List ℕ → ℕ → Op
+opAt l b = record { code = getD l b 0; cell = getD l (b + 1) 0; amount = getD l (b + 2) 0 }
+
+-- the fragment of the transaction whose words start at b
+unfoldable pub fragmentAt : List ℕ → ℕ → Fragment
+fragmentAt l b = record {
+  flags = getD l (b + 1) 0;
+  coordinator = getD l (b + 2) 0;
+  count = getD l (b + 3) 0;
+  row = opAt l (b + 4) ∷ opAt l (b + 7) ∷ opAt l (b + 10) ∷ opAt l (b + 13) ∷ opAt l (b + 16) ∷ opAt l (b + 19) ∷ opAt l (b + 22) ∷ opAt l (b + 25) ∷ [];
+}
+
+-- n waiting ones, the first of which starts at b
+unfoldable pub waitingOf : List ℕ → ℕ → ℕ → List Waiting
+waitingOf l b zero = []
+waitingOf l b (suc n) = record { number = getD l b 0; fragment = fragmentAt l b } ∷ waitingOf l (b + 28) n
+
+-- n numbers from b on
+unfoldable pub numbersFrom : List ℕ → ℕ → ℕ → List ℕ
+numbersFrom l b zero = []
+numbersFrom l b (suc n) = getD l b 0 ∷ numbersFrom l (b + 1) n
+
+-- the cases that the words of a state and of a reply stand for
+abbrev pub stateOf : ℕ → State
+stateOf n = pick (eqb n 0) Running (pick (eqb n 1) Finished (pick (eqb n 2) Failed NoState))
+
+abbrev pub replyOf : ℕ → Outcome → Reply
+replyOf n o = pick (eqb n 0) Sent (pick (eqb n 1) (Held o) NoReply)
+
+-- the uncommitted one whose row starts at b, whose run at c and whose entries at d
+unfoldable pub memberAt : List ℕ → ℕ → List ℕ → ℕ → List ℕ → ℕ → Uncommitted
+memberAt live b runs c undo d = record {
+  number = getD live b 0;
+  first = fragmentAt live b;
+  ran = getD runs c 0;
+  state = stateOf (getD runs (c + 1) 0);
+  reply = replyOf (getD runs (c + 2) 0) (record { place = getD runs (c + 4) 0; numbers = numbersFrom runs (c + 6) (getD runs (c + 5) 0) });
+  undo = entriesOf undo d (getD runs (c + 3) 0);
+}
+
+-- n uncommitted ones, the first of which is so
+unfoldable pub uncommittedOf : List ℕ → ℕ → List ℕ → ℕ → List ℕ → ℕ → ℕ → List Uncommitted
+uncommittedOf live b runs c undo d zero = []
+uncommittedOf live b runs c undo d (suc n) = memberAt live b runs c undo d ∷ uncommittedOf live (b + 28) runs (c + 16) undo (d + 2 * getD runs (c + 3) 0) n
+
+-- what the words of a record mean
+unfoldable pub viewOf : ℕ → ℕ → ℕ → ℕ → List ℕ → List ℕ → List ℕ → Engine
+viewOf count largest uncommitted waiting live runs undo = record {
+  count = count;
+  largest = largest;
+  uncommitted = uncommittedOf live 0 runs 0 undo 0 uncommitted;
+  waiting = waitingOf live (28 * uncommitted) waiting;
+}
+
+abbrev pub view : Record → Engine
+view r = viewOf (r .count) (r .largest) (r .uncommitted) (r .waiting) (r .live) (r .runs) (r .undo)

@@ -1,0 +1,70 @@
+-- How the record's lists stand in its rows of numbers: 28 words a live transaction, 16 a run, 2 an undo entry; unused places are zero.
+use Prim.Native.Nat.{ℕ}
+use mathlib.Core.List.{List, [], _∷_, _++_, map}
+use lib.ListN.{length}
+use Rattle.model.specs.Operations.{Outcome}
+use Rattle.model.specs.Transactions.{State, Running, Finished, Failed, NoState, Reply, Held, Sent, NoReply, Uncommitted, Waiting, Engine, undoList}
+use Rattle.model.specs.Steps.{requeued}
+use Rattle.model.specs.declared.Op.{Op}
+use Rattle.model.specs.declared.Fragment.{Fragment}
+use Rattle.operations.specs.Laid.{padded, flat}
+use Rattle.record.specs.declared.Record.{Record}
+
+-- eight times code, cell, amount
+abbrev pub opsWords : List Op → List ℕ
+opsWords [] = []
+opsWords (o ∷ os) = o .code ∷ o .cell ∷ o .amount ∷ opsWords os
+
+-- a live transaction: number, flags, coordinator, count, operations
+unfoldable pub rowWords : ℕ → Fragment → List ℕ
+rowWords n f = n ∷ f .flags ∷ f .coordinator ∷ f .count ∷ opsWords (f .row)
+
+unfoldable pub allRows : List Waiting → List ℕ
+allRows [] = []
+allRows (w ∷ ws) = rowWords (w .number) (w .fragment) ++ allRows ws
+
+-- the numbers that stand for a state and a reply
+abbrev pub stateWord : State → ℕ
+stateWord Running = 0
+stateWord Finished = 1
+stateWord Failed = 2
+stateWord NoState = 3
+
+abbrev pub replyWord : Reply → ℕ
+replyWord Sent = 0
+replyWord (Held o) = 1
+replyWord NoReply = 2
+
+-- what a reply holds
+abbrev pub heldOutcome : Reply → Outcome
+heldOutcome (Held o) = o
+heldOutcome Sent = record { place = 0; numbers = [] }
+heldOutcome NoReply = record { place = 0; numbers = [] }
+
+-- place, count, eight numbers
+abbrev pub outcomeWords : Outcome → List ℕ
+outcomeWords o = o .place ∷ length (o .numbers) ∷ padded 8 (o .numbers)
+
+-- an uncommitted one beside its row: fragments run, state, reply, how many entries are its own, what it holds, two zeros
+unfoldable pub runWords : Uncommitted → List ℕ
+runWords u = u .ran ∷ stateWord (u .state) ∷ replyWord (u .reply) ∷ length (u .undo) ∷ outcomeWords (heldOutcome (u .reply)) ++ (0 ∷ 0 ∷ [])
+
+unfoldable pub allRuns : List Uncommitted → List ℕ
+allRuns [] = []
+allRuns (u ∷ us) = runWords u ++ allRuns us
+
+-- the live ones in number order: uncommitted, then waiting
+abbrev pub liveRows : List Uncommitted → List Waiting → List Waiting
+liveRows us ws = map requeued us ++ ws
+
+-- a record that means e, every unused place zero
+unfoldable pub pack : Engine → Record
+pack e = record {
+  count = e .count;
+  largest = e .largest;
+  uncommitted = length (e .uncommitted);
+  waiting = length (e .waiting);
+  live = padded 1792 (allRows (liveRows (e .uncommitted) (e .waiting)));
+  runs = padded 256 (allRuns (e .uncommitted));
+  undo = padded 368 (flat (undoList (e .uncommitted)));
+}

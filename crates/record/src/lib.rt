@@ -1,0 +1,143 @@
+// The engine's record by value, every field a 32-bit number, and what is read off its rows.
+ghost use mathlib.Core.Path.{_≡_};
+ghost use Prim.Native.Nat.{_+_, _*_, _<_};
+ghost use lib.ListN.{length, getD, take};
+ghost use lib.Seq.{sets};
+ghost use Rattle.record.specs.Words.{rowWords};
+ghost use Rattle.record.specs.View.{opAt, fragmentAt, numbersFrom};
+ghost use Rattle.operations.specs.Laid.{padded};
+use model::Fragment;
+use model::Op;
+
+// "cell count, largest number accepted, uncommitted queue (at most 16), waiting queue, undo list": the live transactions stand in one row in
+// number order, 28 words each, the uncommitted ones first; beside each of those a run of 16 words; the undo entries of all of them in queue
+// order, oldest first, 2 words each. Any words are a record: which of them are sound is asked by each call.
+pub struct Record {
+    pub count: u32,
+    pub largest: u32,
+    pub uncommitted: u32,
+    pub waiting: u32,
+    pub live: [u32; 1792],
+    pub runs: [u32; 256],
+    pub undo: [u32; 368],
+}
+
+// The operation whose words start at b.
+pub(crate) fn op_at(row: &[u32], b: usize) -> Op
+    requires { ⌜ b < 8589934592 ⌝ }
+    ensures { λ r. ⌜ r ≡ opAt (now (row .entry)) b ⌝ }
+{
+    let c = operations::number_at(row, b);
+    let e = operations::number_at(row, b + 1);
+    let v = operations::number_at(row, b + 2);
+    Op {
+        code: c,
+        cell: e,
+        amount: v,
+    }
+}
+
+// The fragment of the transaction whose words start at b, its operations as a row of eight by value.
+pub fn fragment_at(row: &[u32], b: u32) -> Fragment
+    ensures { λ r. ⌜ r ≡ fragmentAt (now (row .entry)) b ⌝ }
+{
+    let at = b as usize;
+    let flags = operations::number_at(row, at + 1);
+    let coordinator = operations::number_at(row, at + 2);
+    let count = operations::number_at(row, at + 3);
+    let o0 = op_at(row, at + 4);
+    let o1 = op_at(row, at + 7);
+    let o2 = op_at(row, at + 10);
+    let o3 = op_at(row, at + 13);
+    let o4 = op_at(row, at + 16);
+    let o5 = op_at(row, at + 19);
+    let o6 = op_at(row, at + 22);
+    let o7 = op_at(row, at + 25);
+    let ops = [o0, o1, o2, o3, o4, o5, o6, o7];
+    Fragment {
+        flags: flags,
+        coordinator: coordinator,
+        count: count,
+        row: ops,
+    }
+}
+
+// The 28 words of a live transaction.
+pub fn row_words(number: u32, f: Fragment) -> [u32; 28]
+    ensures { λ r. ⌜ r ≡ rowWords number f ⌝ }
+{
+    let ops = f.row;
+    let a = ops[0];
+    let b = ops[1];
+    let c = ops[2];
+    let d = ops[3];
+    let e = ops[4];
+    let g = ops[5];
+    let h = ops[6];
+    let i = ops[7];
+    [
+        number,
+        f.flags,
+        f.coordinator,
+        f.count,
+        a.code,
+        a.cell,
+        a.amount,
+        b.code,
+        b.cell,
+        b.amount,
+        c.code,
+        c.cell,
+        c.amount,
+        d.code,
+        d.cell,
+        d.amount,
+        e.code,
+        e.cell,
+        e.amount,
+        g.code,
+        g.cell,
+        g.amount,
+        h.code,
+        h.cell,
+        h.amount,
+        i.code,
+        i.cell,
+        i.amount,
+    ]
+}
+
+// Lays the first n words into a row from place `at` on; what would stand past its end is not kept.
+pub fn lay(row: &mut [u32], at: u32, words: &[u32], n: u32)
+    ensures { λ _. ⌜ now (row .exit) ≡ sets (now (row .entry)) at (numbersFrom (now (words .entry)) 0 n) ⌝ }
+{
+    let mut i: usize = 0;
+    while i < n as usize {
+        let w = operations::number_at(words, i);
+        operations::put_at(row, at as usize + i, w);
+        i = i + 1;
+    }
+}
+
+// Moves the words of a row that stand k places further on to its start: the first m places get them, 0 from past its end.
+pub fn shift(row: &mut [u32], k: u32, m: u32)
+    ensures { λ _. ⌜ now (row .exit) ≡ sets (now (row .entry)) 0 (numbersFrom (now (row .entry)) k m) ⌝ }
+{
+    let mut i: usize = 0;
+    while i < m as usize {
+        let w = operations::number_at(row, k as usize + i);
+        operations::put_at(row, i, w);
+        i = i + 1;
+    }
+}
+
+// Clears a row from place n on.
+pub fn clear(row: &mut [u32], n: u32)
+    ensures { λ _. ⌜ now (row .exit) ≡ padded (length (now (row .entry))) (take n (now (row .entry))) ⌝ }
+{
+    let mut i = n as usize;
+    while i < row.len() {
+        row[i] = 0;
+        i = i + 1;
+    }
+}

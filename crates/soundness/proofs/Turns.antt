@@ -1,0 +1,101 @@
+-- One turn of each walk: what is left from here is the whole.
+use Prim.Native.Nat.{ℕ, suc, _+_, _-_, _≤_, _<_}
+use native.Mathlib.Omega.{arith}
+use borrow.Author.Tests.{le-leb, lt-leb, lt-ltb, le-ltb}
+use mathlib.Core.Path.{_≡_, sym, ap, _∙_}
+use mathlib.Core.Bool.{Bool, true, false, _&&_}
+use mathlib.Core.List.{List}
+use lib.Dec.{leb, ltb}
+use lib.ListN.{getD}
+use Rattle.operations.specs.Laid.{entriesOf}
+use Rattle.soundness.specs.Groups.{rowOk, liveFrom, nextOk, frontOk, behindFrom, membersOk, totalFrom, undoOk}
+
+on : (a r w : Bool) → (a && r) ≡ w → a ≡ true → r ≡ w
+on a r w h e = ap (λ (x : Bool). x && r) (sym e) ∙ h
+
+off : (a r w : Bool) → (a && r) ≡ w → a ≡ false → false ≡ w
+off a r w h e = ap (λ (x : Bool). x && r) (sym e) ∙ h
+
+module _ (largest cells : ℕ) (live : List ℕ) (b left low : ℕ) (whole : Bool) (inv : liveFrom largest cells live b left low ≡ whole) where
+  module _ (more : 0 < left) where
+    live-next : (rowOk cells live b low && liveFrom largest cells live (b + 28) (left - 1) (getD live b 0)) ≡ whole
+    unfolding liveFrom
+    live-next = let e : suc (left - 1) ≡ left = omega arith in ap (λ (n : ℕ). liveFrom largest cells live b n low) e ∙ inv
+
+    pub live-on : (m : ℕ) → m ≡ getD live b 0 → rowOk cells live b low ≡ true → liveFrom largest cells live (b + 28) (left - 1) m ≡ whole
+    live-on m em e = ap (liveFrom largest cells live (b + 28) (left - 1)) em ∙ on (rowOk cells live b low) _ whole live-next e
+
+    pub live-off : rowOk cells live b low ≡ false → false ≡ whole
+    live-off e = off (rowOk cells live b low) _ whole live-next e
+
+  pub live-end : left ≤ 0 → leb low largest ≡ whole
+  unfolding liveFrom
+  live-end h = let e : 0 ≡ left = omega arith in ap (λ (n : ℕ). liveFrom largest cells live b n low) e ∙ inv
+
+module _ (live : List ℕ) (b : ℕ) (runs : List ℕ) (c left : ℕ) (whole : Bool) (inv : behindFrom live b runs c left ≡ whole) where
+  module _ (more : 0 < left) (s : ℕ) (es : s ≡ getD runs (c + 1) 0) where
+    behind-next : (leb 1 s && (nextOk live (b + 28) runs (c + 16) && behindFrom live (b + 28) runs (c + 16) (left - 1))) ≡ whole
+    unfolding behindFrom
+    behind-next =
+        let e : suc (left - 1) ≡ left = omega arith in
+        ap (λ (x : ℕ). leb 1 x && (nextOk live (b + 28) runs (c + 16) && behindFrom live (b + 28) runs (c + 16) (left - 1))) es
+        ∙ ap (behindFrom live b runs c) e ∙ inv
+
+    pub behind-open : s < 1 → false ≡ whole
+    behind-open h = off (leb 1 s) (nextOk live (b + 28) runs (c + 16) && behindFrom live (b + 28) runs (c + 16) (left - 1)) whole behind-next (lt-leb 1 s h)
+
+    module _ (h : 1 ≤ s) where
+      behind-mid : (nextOk live (b + 28) runs (c + 16) && behindFrom live (b + 28) runs (c + 16) (left - 1)) ≡ whole
+      behind-mid = on (leb 1 s) (nextOk live (b + 28) runs (c + 16) && behindFrom live (b + 28) runs (c + 16) (left - 1)) whole behind-next (le-leb 1 s h)
+
+      pub behind-on : nextOk live (b + 28) runs (c + 16) ≡ true → behindFrom live (b + 28) runs (c + 16) (left - 1) ≡ whole
+      behind-on e = on (nextOk live (b + 28) runs (c + 16)) _ whole behind-mid e
+
+      pub behind-off : nextOk live (b + 28) runs (c + 16) ≡ false → false ≡ whole
+      behind-off e = off (nextOk live (b + 28) runs (c + 16)) _ whole behind-mid e
+
+  pub behind-end : left ≤ 0 → true ≡ whole
+  unfolding behindFrom
+  behind-end h = let e : 0 ≡ left = omega arith in ap (behindFrom live b runs c) e ∙ inv
+
+module _ (live runs : List ℕ) (n : ℕ) where
+  pub members-none : n ≡ 0 → true ≡ membersOk live runs n
+  unfolding membersOk
+  members-none e = ap (membersOk live runs) (sym e)
+
+  pub members-some : (n ≡ 0 → ⊥) → (frontOk live runs && behindFrom live 0 runs 0 (n - 1)) ≡ membersOk live runs n
+  unfolding membersOk
+  members-some h = let e : suc (n - 1) ≡ n = omega arith in ap (membersOk live runs) e
+
+module _ (runs : List ℕ) (c left sum whole : ℕ) (inv : sum + totalFrom runs c left ≡ whole) where
+  pub total-on : 0 < left → (w : ℕ) → w ≡ getD runs (c + 3) 0 → (sum + w) + totalFrom runs (c + 16) (left - 1) ≡ whole
+  unfolding totalFrom
+  total-on more w ew =
+      let e : suc (left - 1) ≡ left = omega arith in
+      let t : getD runs (c + 3) 0 + totalFrom runs (c + 16) (left - 1) ≡ totalFrom runs c left = ap (totalFrom runs c) e in
+      omega arith
+
+  pub total-end : left ≤ 0 → sum ≡ whole
+  unfolding totalFrom
+  total-end h =
+      let e : 0 ≡ left = omega arith in
+      let t : 0 ≡ totalFrom runs c left = ap (totalFrom runs c) e in
+      omega arith
+
+module _ (cells : ℕ) (undo : List ℕ) (b left : ℕ) (whole : Bool) (inv : undoOk cells undo b left ≡ whole) where
+  module _ (more : 0 < left) (w : ℕ) (ew : w ≡ getD undo b 0) where
+    undo-next : (ltb w cells && undoOk cells undo (b + 2) (left - 1)) ≡ whole
+    unfolding undoOk entriesOf
+    undo-next =
+        let e : suc (left - 1) ≡ left = omega arith in
+        ap (λ (x : ℕ). ltb x cells && undoOk cells undo (b + 2) (left - 1)) ew ∙ ap (undoOk cells undo b) e ∙ inv
+
+    pub undo-on : w < cells → undoOk cells undo (b + 2) (left - 1) ≡ whole
+    undo-on h = on (ltb w cells) _ whole undo-next (lt-ltb w cells h)
+
+    pub undo-off : cells ≤ w → false ≡ whole
+    undo-off h = off (ltb w cells) _ whole undo-next (le-ltb w cells h)
+
+  pub undo-end : left ≤ 0 → true ≡ whole
+  unfolding undoOk entriesOf
+  undo-end h = let e : 0 ≡ left = omega arith in ap (undoOk cells undo b) e ∙ inv

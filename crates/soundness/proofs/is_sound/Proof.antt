@@ -1,0 +1,104 @@
+use native.Mathlib.Omega.{arith}
+use mathlib.Core.Path.{_≡_, sym, ap, _∙_}
+use mathlib.Core.Bool.{true, false}
+use Prim.Native.Nat.{_+_}
+use borrow.Author.Tests.{le-leb, lt-leb, not-true, not-false}
+use Rattle.soundness.specs.Groups.{liveFrom, membersOk, undoOk, groups}
+use Rattle.soundness.proofs.Grouped.{groups-sound}
+use borrow.Author.Needs.{needs}
+use Rattle.soundness.proofs.is_sound.Statement.{statement}
+use Rattle.soundness.proofs.is_sound.Tie as tie
+use Rattle.soundness.proofs.is_sound.Reads as reads
+use Rattle.soundness.proofs.is_sound.Lts as lts
+use Rattle.soundness.proofs.live_ok.Reads as live-ok-reads
+use Rattle.soundness.proofs.members_ok.Reads as members-ok-reads
+use Rattle.soundness.proofs.total.Reads as total-reads
+use Rattle.soundness.proofs.undo_ok.Reads as undo-ok-reads
+
+-- src/lib.rt:198:9
+returns : tie.Need-returns
+unfolding groups
+returns c = let a = c .before .before .before .before .args in
+    let g : false ≡ groups (a .count) (a .largest) (a .uncommitted) (a .waiting) (a .live .now) (a .runs .now) (a .undo .now) = rw (lt-leb (a .count) 4096 (c .if1 .taken)) in
+    g ∙ groups-sound (a .count) (a .largest) (a .uncommitted) (a .waiting) (a .live .now) (a .runs .now) (a .undo .now)
+
+-- src/lib.rt:201:9
+returns-2 : tie.Need-returns-2
+unfolding groups
+returns-2 c = let a = c .before .before .before .before .before .args in
+    let g : false ≡ groups (a .count) (a .largest) (a .uncommitted) (a .waiting) (a .live .now) (a .runs .now) (a .undo .now) = rw (le-leb (a .count) 4096 (c .before .if1 .left), lt-leb (a .uncommitted) 16 (c .if2 .taken)) in
+    g ∙ groups-sound (a .count) (a .largest) (a .uncommitted) (a .waiting) (a .live .now) (a .runs .now) (a .undo .now)
+
+-- src/lib.rt:203:8
+sub-if3 : tie.Need-sub-if3
+sub-if3 c = search needs
+
+-- src/lib.rt:204:9
+returns-3 : tie.Need-returns-3
+unfolding groups
+returns-3 c = let a = c .before .before .before .before .before .before .args in
+    let g : false ≡ groups (a .count) (a .largest) (a .uncommitted) (a .waiting) (a .live .now) (a .runs .now) (a .undo .now) = rw (le-leb (a .count) 4096 (c .before .before .if1 .left), le-leb (a .uncommitted) 16 (c .before .if2 .left), lt-leb (a .uncommitted + a .waiting) 64 (omega arith)) in
+    g ∙ groups-sound (a .count) (a .largest) (a .uncommitted) (a .waiting) (a .live .now) (a .runs .now) (a .undo .now)
+
+-- src/lib.rt:206:23
+add-live-ok : tie.Need-add-live-ok
+add-live-ok c = search needs
+
+-- src/lib.rt:206:9
+live-ok-requires : tie.Need-live-ok-requires
+live-ok-requires c κs = search needs
+
+-- src/lib.rt:207:9
+returns-4 : tie.Need-returns-4
+unfolding groups
+returns-4 c = let a = c .before .before .before .before .before .before .before .before .args in
+    let l : liveFrom (a .largest) (a .count) (a .live .now) 0 (a .uncommitted + a .waiting) 0 ≡ false = sym (c .before .live-ok .ensures) ∙ not-true (c .before .live-ok .result) (c .if4 .taken) in
+    let g : false ≡ groups (a .count) (a .largest) (a .uncommitted) (a .waiting) (a .live .now) (a .runs .now) (a .undo .now) = rw (le-leb (a .count) 4096 (c .before .before .before .before .if1 .left), le-leb (a .uncommitted) 16 (c .before .before .before .if2 .left), le-leb (a .uncommitted + a .waiting) 64 (omega arith), l) in
+    g ∙ groups-sound (a .count) (a .largest) (a .uncommitted) (a .waiting) (a .live .now) (a .runs .now) (a .undo .now)
+
+-- src/lib.rt:209:9
+members-ok-requires : tie.Need-members-ok-requires
+members-ok-requires c κs = search needs
+
+-- src/lib.rt:210:9
+returns-5 : tie.Need-returns-5
+unfolding groups
+returns-5 c = let a = c .before .before .before .before .before .before .before .before .before .before .args in
+    let l : liveFrom (a .largest) (a .count) (a .live .now) 0 (a .uncommitted + a .waiting) 0 ≡ true = sym (c .before .before .before .live-ok .ensures) ∙ not-false (c .before .before .before .live-ok .result) (c .before .before .if4 .left) in
+    let m : membersOk (a .live .now) (a .runs .now) (a .uncommitted) ≡ false = sym (c .before .members-ok .ensures) ∙ not-true (c .before .members-ok .result) (c .if5 .taken) in
+    let g : false ≡ groups (a .count) (a .largest) (a .uncommitted) (a .waiting) (a .live .now) (a .runs .now) (a .undo .now) = rw (le-leb (a .count) 4096 (c .before .before .before .before .before .before .if1 .left), le-leb (a .uncommitted) 16 (c .before .before .before .before .before .if2 .left), le-leb (a .uncommitted + a .waiting) 64 (omega arith), l, m) in
+    g ∙ groups-sound (a .count) (a .largest) (a .uncommitted) (a .waiting) (a .live .now) (a .runs .now) (a .undo .now)
+
+-- src/lib.rt:212:9
+total-requires : tie.Need-total-requires
+total-requires c κs = search needs
+
+-- src/lib.rt:213:5
+undo-ok-requires : tie.Need-undo-ok-requires
+undo-ok-requires c κs = search needs
+
+-- src/lib.rt:194:1
+returns-6 : tie.Need-returns-6
+unfolding groups
+returns-6 c = let a = c .before .before .before .before .before .before .before .before .before .before .before .before .args in
+    let l : liveFrom (a .largest) (a .count) (a .live .now) 0 (a .uncommitted + a .waiting) 0 ≡ true = sym (c .before .before .before .before .before .live-ok .ensures) ∙ not-false (c .before .before .before .before .before .live-ok .result) (c .before .before .before .before .if4 .left) in
+    let m : membersOk (a .live .now) (a .runs .now) (a .uncommitted) ≡ true = sym (c .before .before .before .members-ok .ensures) ∙ not-false (c .before .before .before .members-ok .result) (c .before .before .if5 .left) in
+    let g : c .undo-ok .result ≡ groups (a .count) (a .largest) (a .uncommitted) (a .waiting) (a .live .now) (a .runs .now) (a .undo .now) = rw (le-leb (a .count) 4096 (c .before .before .before .before .before .before .before .before .if1 .left), le-leb (a .uncommitted) 16 (c .before .before .before .before .before .before .before .if2 .left), le-leb (a .uncommitted + a .waiting) 64 (omega arith), l, m) (c .undo-ok .ensures ∙ ap (undoOk (a .count) (a .undo .now) 0) (c .before .total .ensures .0)) in
+    g ∙ groups-sound (a .count) (a .largest) (a .uncommitted) (a .waiting) (a .live .now) (a .runs .now) (a .undo .now)
+
+pub is-sound-spec : {M : Type 1} → statement M
+is-sound-spec =
+    tie.close
+    (tie.spec
+    returns
+    returns-2
+    sub-if3
+    returns-3
+    add-live-ok
+    live-ok-requires
+    returns-4
+    members-ok-requires
+    returns-5
+    total-requires
+    undo-ok-requires
+    returns-6)

@@ -1,0 +1,70 @@
+-- Refusal 1 as one walk after the other asks it of a record's words, grouped by row. A read past a row's end gives 0.
+use Prim.Native.Nat.{ℕ, zero, suc, _+_, _*_, _%_}
+use mathlib.Core.Bool.{Bool, true, _&&_, _||_}
+use mathlib.Core.List.{List}
+use lib.Dec.{leb, ltb, eqb}
+use lib.ListN.{getD}
+use Rattle.model.specs.Refusals.{every, storable}
+use Rattle.model.specs.declared.Undo.{Undo}
+use Rattle.operations.specs.Laid.{entriesOf}
+use Rattle.record.specs.View.{fragmentAt}
+
+-- the live row that starts at b: its number above the last one, its fragment storable
+unfoldable pub rowOk : ℕ → List ℕ → ℕ → ℕ → Bool
+rowOk cells live b low = ltb low (getD live b 0) && storable cells (fragmentAt live b)
+
+-- n live rows, the first of which starts at b, behind the number `low`
+unfoldable pub liveFrom : ℕ → ℕ → List ℕ → ℕ → ℕ → ℕ → Bool
+liveFrom largest cells live b zero low = leb low largest
+liveFrom largest cells live b (suc n) low = rowOk cells live b low && liveFrom largest cells live (b + 28) n (getD live b 0)
+
+-- the run that starts at c: its reply
+unfoldable pub replyOk : List ℕ → ℕ → Bool
+replyOk runs c = eqb (getD runs (c + 2) 0) 0 || eqb (getD runs (c + 2) 0) 1 && leb (getD runs (c + 4) 0) 8 && leb (getD runs (c + 5) 0) 8
+
+-- and all of it, with at most `most` fragments run
+unfoldable pub runOk : ℕ → List ℕ → ℕ → Bool
+runOk most runs c =
+    leb 1 (getD runs c 0) && leb (getD runs c 0) most && leb (getD runs (c + 1) 0) 2 && leb (getD runs (c + 3) 0) (8 * getD runs c 0) && replyOk runs c
+
+-- the live row that starts at b is a multi's
+abbrev pub multiAt : List ℕ → ℕ → Bool
+multiAt live b = eqb (getD live (b + 1) 0 % 2) 1
+
+-- the front: a multi whose answer was sent
+unfoldable pub frontOk : List ℕ → List ℕ → Bool
+frontOk live runs = multiAt live 0 && eqb (getD runs 2 0) 0 && runOk 8 runs 0
+
+-- one behind the front, whose row starts at b and whose run at c: a single's answer is held
+unfoldable pub nextOk : List ℕ → ℕ → List ℕ → ℕ → Bool
+nextOk live b runs c = runOk 1 runs c && (multiAt live b || eqb (getD runs (c + 2) 0) 1)
+
+-- n ones behind the one whose row starts at b and whose run at c, each behind a finished one
+unfoldable pub behindFrom : List ℕ → ℕ → List ℕ → ℕ → ℕ → Bool
+behindFrom live b runs c zero = true
+behindFrom live b runs c (suc n) = leb 1 (getD runs (c + 1) 0) && (nextOk live (b + 28) runs (c + 16) && behindFrom live (b + 28) runs (c + 16) n)
+
+-- n uncommitted ones
+unfoldable pub membersOk : List ℕ → List ℕ → ℕ → Bool
+membersOk live runs zero = true
+membersOk live runs (suc n) = frontOk live runs && behindFrom live 0 runs 0 n
+
+-- how many undo entries n runs own, the first of which starts at c
+unfoldable pub totalFrom : List ℕ → ℕ → ℕ → ℕ
+totalFrom runs c zero = 0
+totalFrom runs c (suc n) = getD runs (c + 3) 0 + totalFrom runs (c + 16) n
+
+abbrev pub cellUnder : ℕ → Undo → Bool
+cellUnder cells x = ltb (x .cell) cells
+
+-- n undo entries, the first of which starts at b
+unfoldable pub undoOk : ℕ → List ℕ → ℕ → ℕ → Bool
+undoOk cells undo b n = every (cellUnder cells) (entriesOf undo b n)
+
+-- the whole record
+unfoldable pub groups : ℕ → ℕ → ℕ → ℕ → List ℕ → List ℕ → List ℕ → Bool
+groups count largest uncommitted waiting live runs undo =
+    leb count 4096 && leb uncommitted 16 && leb (uncommitted + waiting) 64
+    && liveFrom largest count live 0 (uncommitted + waiting) 0
+    && membersOk live runs uncommitted
+    && undoOk count undo 0 (totalFrom runs 0 uncommitted)

@@ -1,0 +1,222 @@
+// Refusal 1 of document 01: whether a record of any words is sound. Each walk over a row of words asks what it can of one row at a time; every
+// function is total, and a read past a row's end gives 0.
+ghost use mathlib.Core.Path.{_≡_};
+ghost use Prim.Native.Nat.{_+_, _*_, _≤_};
+ghost use Rattle.model.specs.Refusals.{sound};
+ghost use Rattle.record.specs.View.{viewOf};
+ghost use Rattle.soundness.specs.Groups.{rowOk, liveFrom, replyOk, runOk, frontOk, nextOk, behindFrom, membersOk, totalFrom, undoOk};
+
+// "live numbers 0, not rising", "a stored fragment that 4 or 5 would refuse": of the live row that starts at b, behind the number `low`.
+pub(crate) fn row_ok(live: &[u32], b: u32, low: u32, cells: u32) -> bool
+    ensures { λ r. ⌜ r ≡ rowOk cells (now (live .entry)) b low ⌝ }
+{
+    let number = operations::number_at(live, b as usize);
+    if number <= low {
+        return false;
+    }
+    let f = record::fragment_at(live, b);
+    if !operations::is_formed(f) {
+        return false;
+    }
+    operations::is_inside(cells, f)
+}
+
+// The first n live rows: numbers that rise to at most the largest accepted, fragments that may be stored.
+pub(crate) fn live_ok(live: &[u32], n: u32, largest: u32, cells: u32) -> bool
+    requires { ⌜ n ≤ 64 ⌝ }
+    ensures { λ r. ⌜ r ≡ liveFrom largest cells (now (live .entry)) 0 n 0 ⌝ }
+{
+    let mut b: u32 = 0;
+    let mut left = n;
+    let mut low: u32 = 0;
+    while 0 < left {
+        if !row_ok(live, b, low, cells) {
+            return false;
+        }
+        low = operations::number_at(live, b as usize);
+        b = b + 28;
+        left = left - 1;
+    }
+    low <= largest
+}
+
+// "a held answer of more than 8 numbers or a place above 8", or a word that stands for no reply: not in the run that starts at c.
+pub(crate) fn reply_ok(runs: &[u32], c: usize) -> bool
+    requires { ⌜ c ≤ 1000 ⌝ }
+    ensures { λ r. ⌜ r ≡ replyOk (now (runs .entry)) c ⌝ }
+{
+    let reply = operations::number_at(runs, c + 2);
+    if reply == 0 {
+        return true;
+    }
+    if reply != 1 {
+        return false;
+    }
+    let place = operations::number_at(runs, c + 4);
+    if 8 < place {
+        return false;
+    }
+    let numbers = operations::number_at(runs, c + 5);
+    numbers <= 8
+}
+
+// "fragments run beyond the limits", "no fragment run", "undo entries beyond 8 for each fragment its owner ran", or a word that stands for no
+// state or reply: not in the run that starts at c, where at most `most` fragments may have run.
+pub(crate) fn run_ok(runs: &[u32], c: usize, most: u32) -> bool
+    requires { ⌜ c ≤ 1000 ⌝ }
+    requires { ⌜ most ≤ 8 ⌝ }
+    ensures { λ r. ⌜ r ≡ runOk most (now (runs .entry)) c ⌝ }
+{
+    let ran = operations::number_at(runs, c);
+    if ran < 1 {
+        return false;
+    }
+    if most < ran {
+        return false;
+    }
+    let state = operations::number_at(runs, c + 1);
+    if 2 < state {
+        return false;
+    }
+    let entries = operations::number_at(runs, c + 3);
+    if 8 * ran < entries {
+        return false;
+    }
+    reply_ok(runs, c)
+}
+
+// "a front that is a single or holds its answer": not this one.
+pub(crate) fn front_ok(live: &[u32], runs: &[u32]) -> bool
+    ensures { λ r. ⌜ r ≡ frontOk (now (live .entry)) (now (runs .entry)) ⌝ }
+{
+    let flags = operations::number_at(live, 1);
+    if flags % 2 != 1 {
+        return false;
+    }
+    let reply = operations::number_at(runs, 2);
+    if reply != 0 {
+        return false;
+    }
+    run_ok(runs, 0, 8)
+}
+
+// "one behind the front with more than one run", "an uncommitted single whose answer is not held": not the one whose row starts at b and whose
+// run at c.
+pub(crate) fn next_ok(live: &[u32], b: usize, runs: &[u32], c: usize) -> bool
+    requires { ⌜ b ≤ 1000 ⌝ }
+    requires { ⌜ c ≤ 1000 ⌝ }
+    ensures { λ r. ⌜ r ≡ nextOk (now (live .entry)) b (now (runs .entry)) c ⌝ }
+{
+    if !run_ok(runs, c, 1) {
+        return false;
+    }
+    let flags = operations::number_at(live, b + 1);
+    if flags % 2 == 1 {
+        return true;
+    }
+    let reply = operations::number_at(runs, c + 2);
+    reply == 1
+}
+
+// The n uncommitted ones behind the front, "an unfinished one that is not the last" with them.
+pub(crate) fn behind_ok(live: &[u32], runs: &[u32], n: u32) -> bool
+    requires { ⌜ n ≤ 15 ⌝ }
+    ensures { λ r. ⌜ r ≡ behindFrom (now (live .entry)) 0 (now (runs .entry)) 0 n ⌝ }
+{
+    let mut b: usize = 0;
+    let mut c: usize = 0;
+    let mut left = n;
+    while 0 < left {
+        let state = operations::number_at(runs, c + 1);
+        if state < 1 {
+            return false;
+        }
+        b = b + 28;
+        c = c + 16;
+        if !next_ok(live, b, runs, c) {
+            return false;
+        }
+        left = left - 1;
+    }
+    true
+}
+
+// The n uncommitted ones.
+pub(crate) fn members_ok(live: &[u32], runs: &[u32], n: u32) -> bool
+    requires { ⌜ n ≤ 16 ⌝ }
+    ensures { λ r. ⌜ r ≡ membersOk (now (live .entry)) (now (runs .entry)) n ⌝ }
+{
+    if n == 0 {
+        return true;
+    }
+    if !front_ok(live, runs) {
+        return false;
+    }
+    behind_ok(live, runs, n - 1)
+}
+
+// How many undo entries the first n runs own.
+pub(crate) fn total(runs: &[u32], n: u32) -> usize
+    requires { ⌜ n ≤ 16 ⌝ }
+    ensures { λ r. ⌜ (r ≡ totalFrom (now (runs .entry)) 0 n) × (r ≤ 68719476736) ⌝ }
+{
+    let mut c: usize = 0;
+    let mut left = n;
+    let mut sum: usize = 0;
+    while 0 < left {
+        let entries = operations::number_at(runs, c + 3);
+        sum = sum + entries as usize;
+        c = c + 16;
+        left = left - 1;
+    }
+    sum
+}
+
+// "an undo cell outside": none among the first n entries.
+pub(crate) fn undo_ok(undo: &[u32], n: usize, cells: u32) -> bool
+    requires { ⌜ n ≤ 68719476736 ⌝ }
+    ensures { λ r. ⌜ r ≡ undoOk cells (now (undo .entry)) 0 n ⌝ }
+{
+    let mut b: usize = 0;
+    let mut left = n;
+    while 0 < left {
+        let cell = operations::number_at(undo, b);
+        if cells <= cell {
+            return false;
+        }
+        b = b + 2;
+        left = left - 1;
+    }
+    true
+}
+
+// Refusal 1: whether these words are a sound record.
+pub fn is_sound(
+    count: u32,
+    largest: u32,
+    uncommitted: u32,
+    waiting: u32,
+    live: &[u32],
+    runs: &[u32],
+    undo: &[u32],
+) -> bool
+    ensures { λ r. ⌜ r ≡ sound (viewOf count largest uncommitted waiting (now (live .entry)) (now (runs .entry)) (now (undo .entry))) ⌝ }
+{
+    if model::MOST_CELLS < count {
+        return false;
+    }
+    if model::DEPTH < uncommitted {
+        return false;
+    }
+    if model::MOST_LIVE - uncommitted < waiting {
+        return false;
+    }
+    if !live_ok(live, uncommitted + waiting, largest, count) {
+        return false;
+    }
+    if !members_ok(live, runs, uncommitted) {
+        return false;
+    }
+    let n = total(runs, uncommitted);
+    undo_ok(undo, n, count)
+}

@@ -1,0 +1,24 @@
+-- What tidying promises of a sound record with anything in its unused places.
+use Prim.Native.Nat.{ℕ, _*_}
+use mathlib.Core.Path.{_≡_}
+use mathlib.Core.Bool.{true}
+use mathlib.Core.List.{List}
+use lib.ListN.{length}
+use Rattle.model.specs.Transactions.{Uncommitted, Waiting, undoList}
+use Rattle.model.specs.Refusals.{sound}
+use Rattle.operations.specs.Laid.{padded, flat}
+use Rattle.record.specs.Words.{allRows, allRuns, liveRows}
+use Rattle.record.specs.View.{uncommittedOf, waitingOf, viewOf}
+
+-- rows that hold the queues, every unused place zero, and how many undo entries there are
+pub record Canonical (us : List Uncommitted) (ws : List Waiting) (n : ℕ) (l r d : List ℕ) : Type 0 where
+  pub entries : n ≡ length (undoList us)
+  pub live : l ≡ padded 1792 (allRows (liveRows us ws))
+  pub runs : r ≡ padded 256 (allRuns us)
+  pub undo : d ≡ padded 368 (flat (undoList us))
+
+-- of a sound record: its rows with every unused place zero, and how many undo entries there are
+abbrev pub Tidied : ℕ → ℕ → ℕ → ℕ → List ℕ → List ℕ → List ℕ → ℕ → List ℕ → List ℕ → List ℕ → Type 0
+Tidied count largest u w live runs undo n live′ runs′ undo′ =
+    length live ≡ 1792 → length runs ≡ 256 → length undo ≡ 368 → sound (viewOf count largest u w live runs undo) ≡ true
+    → Canonical (uncommittedOf live 0 runs 0 undo 0 u) (waitingOf live (28 * u) w) n live′ runs′ undo′

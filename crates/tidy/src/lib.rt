@@ -1,0 +1,84 @@
+// Leaves the rows of a sound record, with anything in their unused places, canonical: every unused place zero.
+ghost use mathlib.Core.Path.{_≡_};
+ghost use Prim.Native.Nat.{ℕ, _≤_};
+ghost use Rattle.tidy.specs.Runs.{used, tidyRun, tidyRuns, entriesFrom};
+ghost use Rattle.tidy.specs.Tidied.{Tidied};
+
+// How many words of the run at a place are in use: six and its numbers where its answer is held, four where it was sent.
+pub(crate) fn used_at(runs: &[u32], at: u32) -> u32
+    ensures { λ r. ⌜ r ≡ used (now (runs .entry)) at ⌝ }
+{
+    let c = at as usize;
+    let reply = operations::number_at(runs, c + 2);
+    if reply != 1 {
+        return 4;
+    }
+    let count = operations::number_at(runs, c + 5);
+    if count < 8 { 6 + count } else { 14 }
+}
+
+// Clears what a run does not use of its sixteen places.
+pub(crate) fn tidy_run(runs: &mut [u32], at: u32)
+    requires { ⌜ at ≤ 256 ⌝ }
+    ensures { λ _. ⌜ now (runs .exit) ≡ tidyRun (now (runs .entry)) at ⌝ }
+{
+    let zeros = [0u32; 16];
+    let k = used_at(runs, at);
+    record::lay(runs, at + k, &zeros, 16 - k);
+}
+
+// So for the first n runs.
+pub(crate) fn tidy_runs(runs: &mut [u32], n: u32)
+    requires { ⌜ n ≤ 16 ⌝ }
+    ensures { λ _. ⌜ now (runs .exit) ≡ tidyRuns (now (runs .entry)) 0 n ⌝ }
+{
+    let mut i: u32 = 0;
+    while i < n {
+        tidy_run(runs, 16 * i);
+        i = i + 1;
+    }
+}
+
+// How many undo entries the first n runs own together.
+pub(crate) fn entries_in(runs: &[u32], n: u32) -> usize
+    requires { ⌜ n ≤ 16 ⌝ }
+    ensures { λ r. ⌜ r ≡ entriesFrom (now (runs .entry)) 0 n ⌝ }
+{
+    let mut sum: usize = 0;
+    let mut i: usize = 0;
+    while i < n as usize {
+        let own = operations::number_at(runs, 16 * i + 3);
+        sum = sum + own as usize;
+        i = i + 1;
+    }
+    sum
+}
+
+// The rows of a sound record made canonical, and how many undo entries it has. Queues or entries beyond the limits are no sound record's:
+// such rows are left as they are.
+pub fn tidy(
+    uncommitted: u32,
+    waiting: u32,
+    live: &mut [u32],
+    runs: &mut [u32],
+    undo: &mut [u32],
+) -> u32
+    ensures { λ r. ⌜ ((count largest : ℕ) → Tidied count largest uncommitted waiting (now (live .entry)) (now (runs .entry)) (now (undo .entry)) r (now (live .exit)) (now (runs .exit)) (now (undo .exit))) ⌝ }
+{
+    if 16 < uncommitted {
+        return 0;
+    }
+    if 64 < waiting {
+        return 0;
+    }
+    let n = entries_in(runs, uncommitted);
+    if 184 < n {
+        return 0;
+    }
+    let entries = n as u32;
+    record::clear(live, 28 * (uncommitted + waiting));
+    tidy_runs(runs, uncommitted);
+    record::clear(runs, 16 * uncommitted);
+    record::clear(undo, 2 * entries);
+    entries
+}
