@@ -26,43 +26,9 @@ use Rattle.record.proofs.Rows.{numbers-same, numbers-whole}
 use Rattle.record.proofs.Back.{Eight, Fit, Known, known-of, view-pack}
 use Rattle.engine.specs.Called.{stepped, nextOf, called, freshOf}
 use Rattle.engine.specs.Carried.{Words, AllWords, returned, answerFrom, answerAt, answerOf, RecordRun, onwardR, runsR, freshR, LendsR, AllLendR, CellsHoldR, SettlingOrderR, PlainRightR, NoAbortR, DependentRightR, RecordDemand3}
+use Rattle.queues.proofs.Rooms.{length-words}
 use Rattle.engine.proofs.Fine.{Small, Fine, rows-eight, taken-fine}
-
--- Any record's view: eight places a row, and as many uncommitted ones as it counts
-
-waiting-eight : (l : List ℕ) (b n : ℕ) → All Eight (waitingOf l b n)
-unfolding waitingOf fragmentAt
-waiting-eight l b zero = tt
-waiting-eight l b (suc n) = (refl, waiting-eight l (b + 28) n)
-
-abbrev First : Uncommitted → Type 0
-First u = length (u .first .row) ≡ 8
-
-members-eight : (live : List ℕ) (b : ℕ) (runs : List ℕ) (c : ℕ) (undo : List ℕ) (d n : ℕ) → All First (uncommittedOf live b runs c undo d n)
-unfolding uncommittedOf memberAt fragmentAt
-members-eight live b runs c undo d zero = tt
-members-eight live b runs c undo d (suc n) = (refl, members-eight live (b + 28) runs (c + 16) undo (d + 2 * getD runs (c + 3) 0) n)
-
-members-count : (live : List ℕ) (b : ℕ) (runs : List ℕ) (c : ℕ) (undo : List ℕ) (d n : ℕ) → length (uncommittedOf live b runs c undo d n) ≡ n
-unfolding uncommittedOf
-members-count live b runs c undo d zero = refl
-members-count live b runs c undo d (suc n) = ap suc (members-count live (b + 28) runs (c + 16) undo (d + 2 * getD runs (c + 3) 0) n)
-
-view-count : (r : Record) → length (view r .uncommitted) ≡ r .uncommitted
-unfolding viewOf
-view-count r = members-count (r .live) 0 (r .runs) 0 (r .undo) 0 (r .uncommitted)
-
-view-largest : (r : Record) → view r .largest ≡ r .largest
-unfolding viewOf
-view-largest r = refl
-
-view-first : (r : Record) → All First (view r .uncommitted)
-unfolding viewOf
-view-first r = members-eight (r .live) 0 (r .runs) 0 (r .undo) 0 (r .uncommitted)
-
-view-waiting : (r : Record) → All Eight (view r .waiting)
-unfolding viewOf
-view-waiting r = waiting-eight (r .live) (28 * r .uncommitted) (r .waiting)
+use Rattle.engine.proofs.Viewed.{First, view-count, view-largest, view-first, view-waiting}
 
 all-both : {A : Type 0} (P Q : A → Type 0) (l : List A) → All P l → All Q l → All (λ (a : A). P a × Q a) l
 all-both P Q [] p q = tt
@@ -103,12 +69,6 @@ small-answers r c h = go (refusal (view r) c) refl
     go : (k : ℕ) → refusal (view r) c ≡ k → All Small (respond k (view r) c .answers)
     go zero z = accepted-fine r c h z .answers
     go (suc k) z = tt
-
-length-words : (a : Answer) → length (words a) ≡ 16
-unfolding words
-length-words a =
-    let ns : List ℕ = a .outcome .numbers in
-    omega (arith, length-append (take 8 (ns ++ replicate 8 0)) (replicate 4 0), length-take 8 (ns ++ replicate 8 0), length-append ns (replicate 8 0))
 
 answer-same : (l m : List ℕ) (b c : ℕ) → ((k : ℕ) → getD l (b + k) 0 ≡ getD m (c + k) 0) → answerFrom l b ≡ answerFrom m c
 unfolding answerFrom

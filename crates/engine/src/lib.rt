@@ -1,4 +1,20 @@
 // The engine of one partition: `start` and `call`.
+ghost use mathlib.Core.Path.{_≡_};
+ghost use mathlib.Core.List.{List, [], _∷_};
+ghost use Prim.Native.Nat.{ℕ, _+_, _*_, _≤_};
+ghost use lib.ListN.{length};
+ghost use lib.Seq.{sets};
+ghost use Rattle.model.specs.Transactions.{Engine};
+ghost use Rattle.model.specs.Refusals.{refusal, request, taken};
+ghost use Rattle.record.specs.Words.{rowWords};
+ghost use Rattle.record.specs.View.{viewOf};
+ghost use Rattle.refusals.specs.Rest.{callOf};
+ghost use Rattle.queues.specs.Work.{Left};
+ghost use Rattle.engine.specs.Called.{called, cellsAfter, roomAfter, freshOf};
+ghost use Rattle.engine.specs.Ready.{Ready, waitingMore, largestBy};
+use model::Event;
+use model::Fragment;
+use queues::Counts;
 use record::Record;
 
 // What a call returns: the number, the count of answers, and the next record.
@@ -12,4 +28,258 @@ pub struct Called {
 pub struct Fresh {
     pub number: u32,
     pub next: Record,
+}
+
+// The refusal of a call, 0 for none: soundness first, then the other rows of the table.
+pub(crate) fn refused(
+    count: u32,
+    largest: u32,
+    uncommitted: u32,
+    waiting: u32,
+    live: &[u32],
+    runs: &[u32],
+    undo: &[u32],
+    cells: &[u32],
+    room: &[u32],
+    event: Event,
+) -> u32
+    ensures { λ r. ⌜ r ≡ refusal (viewOf count largest uncommitted waiting (now (live .entry)) (now (runs .entry)) (now (undo .entry))) (callOf event (now (cells .entry)) (now (room .entry))) ⌝ }
+{
+    if soundness::is_sound(count, largest, uncommitted, waiting, live, runs, undo) {
+        refusals::refused_row(
+            count,
+            largest,
+            uncommitted,
+            waiting,
+            live,
+            runs,
+            undo,
+            cells,
+            room,
+            event,
+        )
+    } else {
+        1
+    }
+}
+
+// "Arrival, new number: join the end of the waiting queue".
+pub(crate) fn join_waiting(live: &mut [u32], c: Counts, number: u32, f: Fragment) -> Counts
+    requires { ⌜ c .first + c .uncommitted + c .waiting ≤ 64 ⌝ }
+    ensures { λ d. ⌜ d ≡ waitingMore c ⌝ }
+    ensures { λ d. ⌜ now (live .exit) ≡ sets (now (live .entry)) (28 * (c .first + c .uncommitted + c .waiting)) (rowWords number f) ⌝ }
+{
+    let w = record::row_words(number, f);
+    record::lay(live, 28 * (c.first + c.uncommitted + c.waiting), &w, 28);
+    Counts {
+        first: c.first,
+        uncommitted: c.uncommitted,
+        waiting: c.waiting + 1,
+        entries: c.entries,
+        answers: c.answers,
+    }
+}
+
+// An accepted fragment: the front's, or a new one that waits; then the drain.
+pub(crate) fn accept_fragment(
+    live: &mut [u32],
+    runs: &mut [u32],
+    undo: &mut [u32],
+    cells: &mut [u32],
+    room: &mut [u32],
+    c: Counts,
+    event: Event,
+) -> Counts
+    requires { ⌜ ((e : Engine) × Ready (now live) (now runs) (now undo) (now room) (now cells) c event e) ⌝ }
+    requires { ⌜ event .kind ≡ 1 ⌝ }
+    ensures { λ d. ⌜ ((e : Engine) → Ready (now (live .entry)) (now (runs .entry)) (now (undo .entry)) (now (room .entry)) (now (cells .entry)) c event e → Left (now (live .exit)) (now (runs .exit)) (now (undo .exit)) (now (room .exit)) d (now (cells .exit)) [] (now (room .entry)) (taken (request event) e (now (cells .entry)))) ⌝ }
+    ensures { λ d. ⌜ d .first + d .uncommitted + d .waiting ≤ 64 ⌝ }
+{
+    let number = event.number;
+    let f = event.fragment;
+    if refusals::is_front(c.uncommitted, live, number) {
+        let d = queues::continue_front(live, runs, undo, cells, room, c, f);
+        return queues::drain(live, runs, undo, cells, room, d);
+    }
+    let d = join_waiting(live, c, number, f);
+    queues::drain(live, runs, undo, cells, room, d)
+}
+
+// An accepted commit.
+pub(crate) fn accept_commit(
+    live: &[u32],
+    runs: &mut [u32],
+    undo: &mut [u32],
+    cells: &mut [u32],
+    room: &mut [u32],
+    c: Counts,
+    event: Event,
+) -> Counts
+    requires { ⌜ ((e : Engine) × Ready (now live) (now runs) (now undo) (now room) (now cells) c event e) ⌝ }
+    requires { ⌜ event .kind ≡ 2 ⌝ }
+    ensures { λ d. ⌜ ((e : Engine) → Ready (now (live .entry)) (now (runs .entry)) (now (undo .entry)) (now (room .entry)) (now (cells .entry)) c event e → Left (now (live .entry)) (now (runs .exit)) (now (undo .exit)) (now (room .exit)) d (now (cells .exit)) [] (now (room .entry)) (taken (request event) e (now (cells .entry)))) ⌝ }
+    ensures { λ d. ⌜ d .first + d .uncommitted + d .waiting ≤ 64 ⌝ }
+{
+    let d = queues::commit(live, runs, undo, room, c);
+    queues::drain(live, runs, undo, cells, room, d)
+}
+
+// An accepted abort.
+pub(crate) fn accept_abort(
+    live: &[u32],
+    runs: &mut [u32],
+    undo: &mut [u32],
+    cells: &mut [u32],
+    room: &mut [u32],
+    c: Counts,
+    event: Event,
+) -> Counts
+    requires { ⌜ ((e : Engine) × Ready (now live) (now runs) (now undo) (now room) (now cells) c event e) ⌝ }
+    requires { ⌜ (event .kind ≡ 1 → ⊥) × (event .kind ≡ 2 → ⊥) ⌝ }
+    ensures { λ d. ⌜ ((e : Engine) → Ready (now (live .entry)) (now (runs .entry)) (now (undo .entry)) (now (room .entry)) (now (cells .entry)) c event e → Left (now (live .entry)) (now (runs .exit)) (now (undo .exit)) (now (room .exit)) d (now (cells .exit)) [] (now (room .entry)) (taken (request event) e (now (cells .entry)))) ⌝ }
+    ensures { λ d. ⌜ d .first + d .uncommitted + d .waiting ≤ 64 ⌝ }
+{
+    let d = queues::abort(runs, undo, cells, c);
+    queues::drain(live, runs, undo, cells, room, d)
+}
+
+// An accepted event: its step, and the drain.
+pub(crate) fn accept(
+    live: &mut [u32],
+    runs: &mut [u32],
+    undo: &mut [u32],
+    cells: &mut [u32],
+    room: &mut [u32],
+    c: Counts,
+    event: Event,
+) -> Counts
+    requires { ⌜ ((e : Engine) × Ready (now live) (now runs) (now undo) (now room) (now cells) c event e) ⌝ }
+    ensures { λ d. ⌜ ((e : Engine) → Ready (now (live .entry)) (now (runs .entry)) (now (undo .entry)) (now (room .entry)) (now (cells .entry)) c event e → Left (now (live .exit)) (now (runs .exit)) (now (undo .exit)) (now (room .exit)) d (now (cells .exit)) [] (now (room .entry)) (taken (request event) e (now (cells .entry)))) ⌝ }
+    ensures { λ d. ⌜ d .first + d .uncommitted + d .waiting ≤ 64 ⌝ }
+{
+    if event.kind == 1 {
+        return accept_fragment(live, runs, undo, cells, room, c, event);
+    }
+    if event.kind == 2 {
+        return accept_commit(live, runs, undo, cells, room, c, event);
+    }
+    accept_abort(live, runs, undo, cells, room, c, event)
+}
+
+// The largest number accepted, after an accepted event.
+pub(crate) fn largest_after(kind: u32, number: u32, largest: u32) -> u32
+    ensures { λ r. ⌜ r ≡ largestBy kind number largest ⌝ }
+{
+    if kind == 1 {
+        if largest < number { number } else { largest }
+    } else {
+        largest
+    }
+}
+
+// One call, of any record, any lent cells, any event and any lent answer room: refused with nothing touched, or carried out.
+pub fn call(r: Record, cells: &mut [u32], event: Event, room: &mut [u32]) -> Called
+    ensures { λ d. ⌜ d ≡ called r event (now (cells .entry)) (now (room .entry)) ⌝ }
+    ensures { λ d. ⌜ now (cells .exit) ≡ cellsAfter r event (now (cells .entry)) (now (room .entry)) ⌝ }
+    ensures { λ d. ⌜ now (room .exit) ≡ roomAfter r event (now (cells .entry)) (now (room .entry)) ⌝ }
+{
+    let mut live = r.live;
+    let mut runs = r.runs;
+    let mut undo = r.undo;
+    let number = refused(
+        r.count,
+        r.largest,
+        r.uncommitted,
+        r.waiting,
+        &live,
+        &runs,
+        &undo,
+        cells,
+        room,
+        event,
+    );
+    if number != 0 {
+        return Called {
+            number: number,
+            answers: 0,
+            next: r,
+        };
+    }
+    let entries = tidy::tidy(r.uncommitted, r.waiting, &mut live, &mut runs, &mut undo);
+    let c = Counts {
+        first: 0,
+        uncommitted: r.uncommitted,
+        waiting: r.waiting,
+        entries: entries,
+        answers: 0,
+    };
+    let d = accept(&mut live, &mut runs, &mut undo, cells, room, c, event);
+    record::shift(
+        &mut live,
+        28 * d.first,
+        28 * (d.first + d.uncommitted + d.waiting),
+    );
+    let next = Record {
+        count: r.count,
+        largest: largest_after(event.kind, event.number, r.largest),
+        uncommitted: d.uncommitted,
+        waiting: d.waiting,
+        live: live,
+        runs: runs,
+        undo: undo,
+    };
+    Called {
+        number: 0,
+        answers: d.answers,
+        next: next,
+    }
+}
+
+// "Starting with 0 or above 4,096 cells returns 3 and a record with 0 cells".
+pub fn start(count: u32) -> Fresh
+    ensures { λ r. ⌜ r ≡ freshOf count ⌝ }
+{
+    let live = [0u32; 1792];
+    let runs = [0u32; 256];
+    let undo = [0u32; 368];
+    if count == 0 {
+        return Fresh {
+            number: 3,
+            next: Record {
+                count: 0,
+                largest: 0,
+                uncommitted: 0,
+                waiting: 0,
+                live: live,
+                runs: runs,
+                undo: undo,
+            },
+        };
+    }
+    if model::MOST_CELLS < count {
+        return Fresh {
+            number: 3,
+            next: Record {
+                count: 0,
+                largest: 0,
+                uncommitted: 0,
+                waiting: 0,
+                live: live,
+                runs: runs,
+                undo: undo,
+            },
+        };
+    }
+    Fresh {
+        number: 0,
+        next: Record {
+            count: count,
+            largest: 0,
+            uncommitted: 0,
+            waiting: 0,
+            live: live,
+            runs: runs,
+            undo: undo,
+        },
+    }
 }

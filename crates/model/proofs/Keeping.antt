@@ -98,7 +98,7 @@ begun-sound ct w cs a s f r h =
       read = both (isState (stateAfter (w .fragment) (run (w .fragment) cs [] .outcome))) (isReply a) (state-read (w .fragment) (run (w .fragment) cs [] .outcome)) r;
     }
 
-front-multi : (u : Uncommitted) → badFront u ≡ false → multi (u .first) ≡ true
+pub front-multi : (u : Uncommitted) → badFront u ≡ false → multi (u .first) ≡ true
 front-multi u h = borrow.Author.Tests.not-false (multi (u .first)) (or-left (not (multi (u .first))) (holds (u .reply)) h)
 
 -- the front, after one more fragment
@@ -261,7 +261,7 @@ drain-sound ct top cs us (w ∷ ws) s = go (mayTake us) refl (λ cs′ us′ s�
         (x .0, omega (arith, h .1, x .1, length-append (placed us w (run (w .fragment) cs []) .answers) (q .answers)))
 
 -- Settling: what is behind the front, before the singles have settled
-record Half (ct top : ℕ) (us : List Uncommitted) (ws : List Waiting) : Type 0 where
+pub record Half (ct top : ℕ) (us : List Uncommitted) (ws : List Waiting) : Type 0 where
   cells : ct ≤ 4096
   sixteen : length us ≤ depth
   sixtyFour : length us + length ws ≤ mostLive
@@ -283,7 +283,7 @@ half-tail ct top u us ws h = record {
   ready = ready-tail u us (h .ready);
 }
 
-front-leaves : (ct top : ℕ) (u : Uncommitted) (us : List Uncommitted) (ws : List Waiting) → Sound ct top (u ∷ us) ws → Half ct top us ws
+pub front-leaves : (ct top : ℕ) (u : Uncommitted) (us : List Uncommitted) (ws : List Waiting) → Sound ct top (u ∷ us) ws → Half ct top us ws
 front-leaves ct top u us ws s = record {
   cells = s .cells;
   sixteen = omega (arith, s .sixteen);
@@ -315,7 +315,7 @@ sent-sound ct u e o = record {
   read = both (isState (u .state)) true (and-left (isState (u .state)) (isReply (u .reply)) (o .read)) refl;
 }
 
-settled-sound : (ct top : ℕ) (us : List Uncommitted) (ws : List Waiting) → Half ct top us ws → Sound ct top (settled us .uncommitted) ws × (length (settled us .answers) ≤ length us)
+pub settled-sound : (ct top : ℕ) (us : List Uncommitted) (ws : List Waiting) → Half ct top us ws → Sound ct top (settled us .uncommitted) ws × (length (settled us .answers) ≤ length us)
 unfolding settled
 settled-sound ct top [] ws h = (record { cells = h .cells; sixteen = h .sixteen; sixtyFour = h .sixtyFour; rises = h .rises; each = tt; waiting = h .waiting; ones = tt; front = refl; ready = refl }, omega arith)
 settled-sound ct top (u ∷ us) ws h = go (multi (u .first)) refl (settled-sound ct top us ws (half-tail ct top u us ws h))
@@ -350,10 +350,11 @@ pub record Stays (ct top : ℕ) (q : Queues) : Type 0 where
   pub most : length (q .answers) ≤ 64
 
 module _ (ct top : ℕ) (ws : List Waiting) (cs : Cells) where
-  pub joined-stays : (us : List Uncommitted) (n : ℕ) (f : Fragment) → Sound ct top us ws → top < n → storable ct f ≡ true → length us + length ws < mostLive → Stays ct n (joined n f cs us ws)
-  joined-stays us n f s k st l =
+  -- before the drain, each step leaves a sound record
+  pub joined-sound : (us : List Uncommitted) (n : ℕ) (f : Fragment) → Sound ct top us ws → top < n → storable ct f ≡ true → length us + length ws < mostLive → Sound ct n us (ws ++ (record { number = n; fragment = f } ∷ []))
+  joined-sound us n f s k st l =
       let w : Waiting = record { number = n; fragment = f } in
-      let x = drain-sound ct n cs us (ws ++ (w ∷ [])) (record {
+      record {
         cells = s .cells;
         sixteen = s .sixteen;
         sixtyFour = omega (arith, length-append ws (w ∷ []));
@@ -363,24 +364,54 @@ module _ (ct top : ℕ) (ws : List Waiting) (cs : Cells) where
         ones = s .ones;
         front = s .front;
         ready = s .ready;
-      }) in
+      }
+
+  pub continued-sound : (u : Uncommitted) (f : Fragment) → Sound ct top (u ∷ []) ws → storable ct f ≡ true → u .ran < mostFragments → Sound ct top (again u f (run f cs (u .undo)) ∷ []) ws
+  continued-sound u f s st k = record {
+    cells = s .cells;
+    sixteen = s .sixteen;
+    sixtyFour = s .sixtyFour;
+    rises = s .rises;
+    each = (again-sound ct u f cs (s .each .0) st k (front-multi u (s .front)), tt);
+    waiting = s .waiting;
+    ones = tt;
+    front = ap (λ (b : Bool). not b || false) (front-multi u (s .front));
+    ready = refl;
+  }
+
+  stored-requeued : (us : List Uncommitted) → All (SoundOne ct) us → All (Stored ct) (map requeued us)
+  stored-requeued [] h = tt
+  stored-requeued (u ∷ us) h = (h .0 .stored, stored-requeued us (h .1))
+
+  pub aborted-sound : (u : Uncommitted) (us : List Uncommitted) → Sound ct top (u ∷ us) ws → Sound ct top [] (map requeued us ++ ws)
+  aborted-sound u us s = record {
+    cells = s .cells;
+    sixteen = omega arith;
+    sixtyFour = omega (arith, s .sixtyFour, length-append (map requeued us) ws, length-map us requeued);
+    rises = subst (λ (z : List ℕ). Rises 0 top z) (sym (numbers-requeued us ws)) (front-leaves ct top u us ws s .rises);
+    each = tt;
+    waiting = all-append (Stored ct) (map requeued us) ws (stored-requeued us (s .each .1)) (s .waiting);
+    ones = tt;
+    front = refl;
+    ready = refl;
+  }
+
+  -- an unfinished front is alone
+  pub alone : (u : Uncommitted) (us : List Uncommitted) → Sound ct top (u ∷ us) ws → finished (u .state) ≡ false → us ≡ []
+  alone u [] s nf = refl
+  alone u (v ∷ us) s nf = absurd (true≢false (sym (and-left (finished (u .state)) (ready (v ∷ us)) (s .ready)) ∙ nf))
+
+  pub joined-stays : (us : List Uncommitted) (n : ℕ) (f : Fragment) → Sound ct top us ws → top < n → storable ct f ≡ true → length us + length ws < mostLive → Stays ct n (joined n f cs us ws)
+  joined-stays us n f s k st l =
+      let w : Waiting = record { number = n; fragment = f } in
+      let x = drain-sound ct n cs us (ws ++ (w ∷ [])) (joined-sound us n f s k st l) in
       record { sound = x .0; most = omega (arith, x .1, length-append ws (w ∷ [])) }
 
   pub continued-stays : (u : Uncommitted) (us : List Uncommitted) (f : Fragment) → Sound ct top (u ∷ us) ws → storable ct f ≡ true → finished (u .state) ≡ false → u .ran < mostFragments
       → Stays ct top (continued f cs u us ws)
   continued-stays u (v ∷ us) f s st nf k = absurd (true≢false (sym (and-left (finished (u .state)) (ready (v ∷ us)) (s .ready)) ∙ nf))
   continued-stays u [] f s st nf k =
-      let x = drain-sound ct top (run f cs (u .undo) .cells) (again u f (run f cs (u .undo)) ∷ []) ws (record {
-        cells = s .cells;
-        sixteen = s .sixteen;
-        sixtyFour = s .sixtyFour;
-        rises = s .rises;
-        each = (again-sound ct u f cs (s .each .0) st k (front-multi u (s .front)), tt);
-        waiting = s .waiting;
-        ones = tt;
-        front = ap (λ (b : Bool). not b || false) (front-multi u (s .front));
-        ready = refl;
-      }) in
+      let x = drain-sound ct top (run f cs (u .undo) .cells) (again u f (run f cs (u .undo)) ∷ []) ws (continued-sound u f s st k) in
       record { sound = x .0; most = omega (arith, x .1, s .sixtyFour) }
 
   pub committed-stays : (u : Uncommitted) (us : List Uncommitted) → Sound ct top (u ∷ us) ws → Stays ct top (committed cs (u ∷ us) ws)
@@ -389,22 +420,7 @@ module _ (ct top : ℕ) (ws : List Waiting) (cs : Cells) where
       let x = drain-sound ct top cs (settled us .uncommitted) ws (y .0) in
       record { sound = x .0; most = omega (arith, x .1, y .1, s .sixtyFour, length-append (settled us .answers) (drain cs (settled us .uncommitted) ws .answers)) }
 
-  stored-requeued : (us : List Uncommitted) → All (SoundOne ct) us → All (Stored ct) (map requeued us)
-  stored-requeued [] h = tt
-  stored-requeued (u ∷ us) h = (h .0 .stored, stored-requeued us (h .1))
-
   pub aborted-stays : (u : Uncommitted) (us : List Uncommitted) → Sound ct top (u ∷ us) ws → Stays ct top (aborted cs (u ∷ us) ws)
   aborted-stays u us s =
-      let h = front-leaves ct top u us ws s in
-      let x = drain-sound ct top _ [] (map requeued us ++ ws) (record {
-        cells = s .cells;
-        sixteen = omega arith;
-        sixtyFour = omega (arith, s .sixtyFour, length-append (map requeued us) ws, length-map us requeued);
-        rises = subst (λ (z : List ℕ). Rises 0 top z) (sym (numbers-requeued us ws)) (h .rises);
-        each = tt;
-        waiting = all-append (Stored ct) (map requeued us) ws (stored-requeued us (s .each .1)) (s .waiting);
-        ones = tt;
-        front = refl;
-        ready = refl;
-      }) in
+      let x = drain-sound ct top _ [] (map requeued us ++ ws) (aborted-sound u us s) in
       record { sound = x .0; most = omega (arith, x .1, s .sixtyFour, length-append (map requeued us) ws, length-map us requeued) }

@@ -23,7 +23,7 @@ use Rattle.model.proofs.Sound.{SoundEngine, Sound, sound-parts, parts-s
 use Rattle.model.proofs.Keeping.{Stays, joined-stays, continued-stays, committed-stays, aborted-stays, rises-weaken}
 
 -- a fragment that was accepted could be stored
-arrives-storable : (e : Engine) (c : Call) → eqb (c .event .kind) 1 ≡ true → Passed e c → storable (e .count) (c .event .fragment) ≡ true
+pub arrives-storable : (e : Engine) (c : Call) → eqb (c .event .kind) 1 ≡ true → Passed e c → storable (e .count) (c .event .fragment) ≡ true
 arrives-storable e c a p =
     both (formed f) (inside (e .count) f)
     (go (eqb (c .event .kind) 1) ((eqb (c .event .kind) 2 || eqb (c .event .kind) 3) && blank f) a

@@ -75,7 +75,7 @@ pub(crate) fn is_live(live: &[u32], uncommitted: u32, waiting: u32, number: u32)
 }
 
 // Is the number the front's.
-pub(crate) fn is_front(uncommitted: u32, live: &[u32], number: u32) -> bool
+pub fn is_front(uncommitted: u32, live: &[u32], number: u32) -> bool
     ensures { λ r. ⌜ r ≡ frontIs uncommitted (now (live .entry)) number ⌝ }
 {
     if uncommitted == 0 {

@@ -1,0 +1,286 @@
+-- The steps of an accepted call, from what the queues' functions say to what the definitions say.
+use Prim.Native.Nat.{ℕ, zero, suc, _+_, _*_, _-_, _≤_, _<_}
+use native.Mathlib.Omega.{arith}
+use borrow.Author.Tests.{eq-eqb, ne-eqb, eqb-true, leb-false, ltb-true, not-false}
+use mathlib.Core.Path.{_≡_, refl, sym, ap, _∙_, subst}
+use mathlib.Core.Bool.{Bool, true, false, not, _&&_, _||_, true≢false}
+use mathlib.Core.List.{List, [], _∷_, _++_, append-assoc, append-nil, map}
+use lib.Dec.{eqb, ltb, leb}
+use lib.ListN.{length, getD, length-append, length-map}
+use lib.Seq.{sets}
+use Rattle.model.specs.Limits.{mostLive, mostFragments}
+use Rattle.model.specs.Operations.{Cells}
+use Rattle.model.specs.Transactions.{finished, Uncommitted, Waiting, Engine, Answer, answer, undoList, front}
+use Rattle.model.specs.Steps.{Queues, sending, arrived, joined, continued, committed, aborted, settled, again, requeued, run, undone}
+use Rattle.model.specs.Steps as Steps
+use Rattle.model.specs.Refusals.{rows, firstOf, refusal, Request, Arrive, Commit, Abort, request, Call, live, new, isFront, sound, storable, taken, largestAfter}
+use Rattle.model.specs.declared.Event.{Event}
+use Rattle.model.specs.declared.Fragment.{Fragment}
+use Rattle.model.proofs.Chain.{All, all-append}
+use Rattle.model.proofs.Passing.{Passed, front-or-new, front-if-known, and-if, and-unless}
+use Rattle.model.proofs.Tests.{both}
+use Rattle.model.proofs.Sound.{Sound, sound-parts, entries-depth, entries-most}
+use Rattle.model.proofs.Keeping.{joined-sound, continued-sound, settled-sound, front-leaves, aborted-sound, alone}
+use Rattle.model.proofs.Kept.{arrives-storable}
+use Rattle.operations.specs.Laid.{padded}
+use Rattle.record.specs.Words.{rowWords, allRows, liveRows}
+use Rattle.record.proofs.Rows.{lay-padded, shift-padded}
+use Rattle.record.proofs.Back.{Eight, Known, known-of, length-row, length-rows, rows-append, number-back, eights-first, eights-rest}
+use Rattle.refusals.specs.Rest.{callOf, frontIs, behindFirst}
+use Rattle.queues.specs.declared.Counts.{Counts}
+use Rattle.queues.specs.Work.{Work, Left, Small, Fair, Drained, Committed, Aborted, Continued}
+use Rattle.engine.specs.Ready.{Ready, waitingMore}
+
+-- the rows hold lists whose drain, with the answers sent so far, is q
+pub record Begun (live runs undo room : List ℕ) (cells : Cells) (c : Counts) (room₀ : List ℕ) (q : Queues) : Type 0 where
+  pub ct : ℕ
+  pub top : ℕ
+  pub gone : List Waiting
+  pub us : List Uncommitted
+  pub ws : List Waiting
+  pub sent : List Answer
+  pub work : Work live runs undo room c gone us ws sent room₀
+  pub sound : Sound ct top us ws
+  pub small : Small c
+  pub rest : sending sent (Steps.drain cells us ws) ≡ q
+
+pub drained-left : (live runs undo room runs′ undo′ room′ : List ℕ) (cells cells′ : Cells) (c c′ : Counts) (room₀ : List ℕ) (q : Queues) → Begun live runs undo room cells c room₀ q
+    → Drained live runs undo room cells c runs′ undo′ room′ cells′ c′ → Left live runs′ undo′ room′ c′ cells′ [] room₀ q
+drained-left live runs undo room runs′ undo′ room′ cells cells′ c c′ room₀ q b d =
+    let l = d (b .gone) (b .us) (b .ws) (b .sent) room₀ (b .work) (b .ct) (b .top) (b .sound) in
+    subst (λ (x : Queues). Left live runs′ undo′ room′ c′ cells′ [] room₀ x) (b .rest) (record { gone = l .gone; work = l .work; stands = l .stands })
+
+small-of : (live runs undo room : List ℕ) (c : Counts) (gone : List Waiting) (us : List Uncommitted) (ws : List Waiting) (sent : List Answer) (room₀ : List ℕ) (ct top : ℕ) → Work live runs undo room c gone us ws sent room₀
+    → Sound ct top us ws → c .first + c .uncommitted + c .waiting ≤ 64 → length sent + length ws ≤ 64 → Small c
+small-of live runs undo room c gone us ws sent room₀ ct top w s h k = record {
+  live = h;
+  answers = omega (arith, w .answers, w .waiting);
+  depth = omega (arith, s .sixteen, w .uncommitted);
+  entries = omega (arith, entries-depth ct top us ws s, w .entries, w .uncommitted);
+}
+
+-- What a ready call has
+
+module _ (live₀ runs undo room : List ℕ) (cells : Cells) (c : Counts) (v : Event) (e : Engine) (rd : Ready live₀ runs undo room cells c v e) where
+  parts : Sound (e .count) (e .largest) (e .uncommitted) (e .waiting)
+  parts = sound-parts e (not-false (sound e) (rd .passed .one))
+
+  pub fair-of : Fair c
+  fair-of = record {
+    live = omega (arith, rd .work .first, rd .work .uncommitted, rd .work .waiting, parts .sixtyFour);
+    answers = omega (arith, rd .work .answers, rd .work .uncommitted, rd .work .waiting, parts .sixtyFour);
+    depth = omega (arith, rd .work .uncommitted, parts .sixteen);
+    entries = omega (arith, rd .work .entries, entries-most (e .count) (e .uncommitted) (parts .sixteen) (parts .each) (parts .ones));
+  }
+
+  -- a decision is for the front
+  decided : eqb (v .kind) 1 ≡ false → isFront (v .number) e ≡ true
+  decided a =
+      front-if-known (live (v .number) e) (new (v .number) e) (isFront (v .number) e) (rd .passed .six) (rd .passed .seven) (and-unless (eqb (v .kind) 1) (new (v .number) e) a (rd .passed .twelve))
+
+  pub some-uncommitted : eqb (v .kind) 1 ≡ false → 0 < c .uncommitted
+  some-uncommitted a = go (e .uncommitted) (decided a) (rd .work .uncommitted)
+    where
+      go : (us : List Uncommitted) → front (λ (u : Uncommitted). eqb (u .number) (v .number)) us ≡ true → length us ≡ c .uncommitted → 0 < c .uncommitted
+      go [] h k = absurd (true≢false (sym h))
+      go (u ∷ us) h k = omega arith
+
+-- Abort
+
+begun-aborted : (live runs undo room runs′ undo′ : List ℕ) (cells cells′ : Cells) (c c′ : Counts) (ct top : ℕ) (us : List Uncommitted) (ws : List Waiting) (n : ℕ) → Work live runs undo room c [] us ws [] room → Sound ct top us ws
+    → front (λ (u : Uncommitted). eqb (u .number) n) us ≡ true → Aborted runs undo cells c runs′ undo′ cells′ c′ → c′ .first + c′ .uncommitted + c′ .waiting ≤ 64
+    → Begun live runs′ undo′ room cells′ c′ room (aborted cells us ws)
+begun-aborted live runs undo room runs′ undo′ cells cells′ c c′ ct top [] ws n w s h ab k = absurd (true≢false (sym h))
+begun-aborted live runs undo room runs′ undo′ cells cells′ c c′ ct top (u ∷ us) ws n w s h ab k =
+    let a = ab live room [] u us ws [] room w (known-of ct (u ∷ us) (s .each)) in
+    let sd : Sound ct top [] (map requeued us ++ ws) = aborted-sound ct top ws cells u us s in
+    record {
+      ct = ct;
+      top = top;
+      gone = requeued u ∷ [];
+      us = [];
+      ws = map requeued us ++ ws;
+      sent = [];
+      work = a .0;
+      sound = sd;
+      small = small-of live runs′ undo′ room c′ (requeued u ∷ []) [] (map requeued us ++ ws) [] room ct top (a .0) sd k (omega (arith, sd .sixtyFour));
+      rest = ap (λ (x : Cells). sending [] (Steps.drain x [] (map requeued us ++ ws))) (a .1);
+    }
+
+-- Commit
+
+begun-committed : (live runs undo room runs′ undo′ room′ : List ℕ) (cells : Cells) (c c′ : Counts) (ct top : ℕ) (us : List Uncommitted) (ws : List Waiting) (n : ℕ) → Work live runs undo room c [] us ws [] room → Sound ct top us ws
+    → front (λ (u : Uncommitted). eqb (u .number) n) us ≡ true → Committed live runs undo room c runs′ undo′ room′ c′ → c′ .first + c′ .uncommitted + c′ .waiting ≤ 64
+    → Begun live runs′ undo′ room′ cells c′ room (committed cells us ws)
+begun-committed live runs undo room runs′ undo′ room′ cells c c′ ct top [] ws n w s h cm k = absurd (true≢false (sym h))
+begun-committed live runs undo room runs′ undo′ room′ cells c c′ ct top (u ∷ us) ws n w s h cm k =
+    let a = cm [] u us ws [] room w (known-of ct (u ∷ us) (s .each)) in
+    let y = settled-sound ct top us ws (front-leaves ct top u us ws s) in
+    record {
+      ct = ct;
+      top = top;
+      gone = a .0;
+      us = settled us .uncommitted;
+      ws = ws;
+      sent = settled us .answers;
+      work = a .1;
+      sound = y .0;
+      small = small-of live runs′ undo′ room′ c′ (a .0) (settled us .uncommitted) ws (settled us .answers) room ct top (a .1) (y .0) k (omega (arith, y .1, s .sixtyFour));
+      rest = refl;
+    }
+
+-- A fragment of the front
+
+begun-continued : (live runs undo room runs′ undo′ room′ : List ℕ) (cells cells′ : Cells) (c c′ : Counts) (f : Fragment) (ct top : ℕ) (u : Uncommitted) (us : List Uncommitted) (ws : List Waiting)
+    → Work live runs undo room c [] (u ∷ us) ws [] room → Sound ct top (u ∷ us) ws → finished (u .state) ≡ false → u .ran < mostFragments → storable ct f ≡ true → length (f .row) ≡ 8
+    → Continued live runs undo room cells c f runs′ undo′ room′ cells′ c′ → c′ .first + c′ .uncommitted + c′ .waiting ≤ 64
+    → Begun live runs′ undo′ room′ cells′ c′ room (continued f cells u us ws)
+begun-continued live runs undo room runs′ undo′ room′ cells cells′ c c′ f ct top u us ws w s nf few st eight cn k = go us w s (alone ct top ws cells u us s nf)
+  where
+    go : (vs : List Uncommitted) → Work live runs undo room c [] (u ∷ vs) ws [] room → Sound ct top (u ∷ vs) ws → vs ≡ [] → Begun live runs′ undo′ room′ cells′ c′ room (continued f cells u vs ws)
+    go (x ∷ vs) w s z = absurd (mathlib.Core.List.nil≢cons (sym z))
+    go [] w s z =
+        let a = cn [] u ws [] room w (known-of ct (u ∷ []) (s .each) .0) few eight (s .each .0 .few) in
+        let sd : Sound ct top (again u f (run f cells (u .undo)) ∷ []) ws = continued-sound ct top ws cells u f s st few in
+        let x : List Answer = answer (u .number) 0 (run f cells (u .undo) .outcome) ∷ [] in
+        record {
+          ct = ct;
+          top = top;
+          gone = [];
+          us = again u f (run f cells (u .undo)) ∷ [];
+          ws = ws;
+          sent = x;
+          work = a .0;
+          sound = sd;
+          small = small-of live runs′ undo′ room′ c′ [] (again u f (run f cells (u .undo)) ∷ []) ws x room ct top (a .0) sd k (omega (arith, s .sixtyFour));
+          rest = ap (λ (y : Cells). sending x (Steps.drain y (again u f (run f cells (u .undo)) ∷ []) ws)) (a .1);
+        }
+
+-- A new transaction
+
+begun-joined : (live live′ runs undo room : List ℕ) (cells : Cells) (c c′ : Counts) (n : ℕ) (f : Fragment) (ct top : ℕ) (us : List Uncommitted) (ws : List Waiting)
+    → Work live runs undo room c [] us ws [] room → Sound ct top us ws → top < n → storable ct f ≡ true → length us + length ws < mostLive → length (f .row) ≡ 8
+    → live′ ≡ sets live (28 * (c .first + c .uncommitted + c .waiting)) (rowWords n f) → c′ ≡ waitingMore c
+    → Begun live′ runs undo room cells c′ room (joined n f cells us ws)
+unfolding allRows
+begun-joined live live′ runs undo room cells c c′ n f ct top us ws w s k st few eight el ec =
+    let x : Waiting = record { number = n; fragment = f } in
+    let old : List Waiting = liveRows us ws in
+    let rows : liveRows us (ws ++ (x ∷ [])) ≡ old ++ (x ∷ []) = sym (append-assoc (map requeued us) ws (x ∷ [])) in
+    let lo : length old ≡ c .first + c .uncommitted + c .waiting = length-append (map requeued us) ws ∙ omega (arith, length-map us requeued, w .first, w .uncommitted, w .waiting) in
+    let lw : length (rowWords n f) ≡ 28 = length-row n f eight in
+    let lr : length (allRows old) ≡ 28 * (c .first + c .uncommitted + c .waiting) = length-rows old (w .eights) ∙ ap (λ (y : ℕ). 28 * y) lo in
+    let laid : live′ ≡ padded 1792 (allRows (liveRows us (ws ++ (x ∷ [])))) =
+    el ∙ ap (λ (y : List ℕ). sets y (28 * (c .first + c .uncommitted + c .waiting)) (rowWords n f)) (w .at-live)
+    ∙ lay-padded 1792 (allRows old) (rowWords n f) (28 * (c .first + c .uncommitted + c .waiting)) lr (omega (arith, lw, w .first, w .uncommitted, w .waiting))
+    ∙ ap (padded 1792) (ap (λ (y : List ℕ). allRows old ++ y) (sym (append-nil (rowWords n f))) ∙ sym (rows-append old (x ∷ [])) ∙ ap allRows (sym rows)) in
+    let wk : Work live′ runs undo room c′ [] us (ws ++ (x ∷ [])) [] room = record {
+      at-live = laid;
+      at-runs = w .at-runs;
+      at-undo = w .at-undo;
+      at-room = w .at-room;
+      first = w .first ∙ sym (ap (λ (y : Counts). y .first) ec);
+      uncommitted = w .uncommitted ∙ sym (ap (λ (y : Counts). y .uncommitted) ec);
+      waiting = length-append ws (x ∷ []) ∙ ap (λ (y : ℕ). y + 1) (w .waiting) ∙ sym (ap (λ (y : Counts). y .waiting) ec);
+      entries = w .entries ∙ sym (ap (λ (y : Counts). y .entries) ec);
+      answers = w .answers ∙ sym (ap (λ (y : Counts). y .answers) ec);
+      eights = subst (All Eight) (sym rows) (all-append Eight old (x ∷ []) (w .eights) (eight, tt));
+      enough = w .enough;
+    } in
+    let sd : Sound ct n us (ws ++ (x ∷ [])) = joined-sound ct top ws cells us n f s k st few in
+    record {
+      ct = ct;
+      top = n;
+      gone = [];
+      us = us;
+      ws = ws ++ (x ∷ []);
+      sent = [];
+      work = wk;
+      sound = sd;
+      small = small-of live′ runs undo room c′ [] us (ws ++ (x ∷ [])) [] room ct n wk sd (omega (arith, wk .first, wk .uncommitted, wk .waiting, sd .sixtyFour)) (omega (arith, sd .sixtyFour));
+      rest = refl;
+    }
+
+-- By the kind of the event
+
+request-arrive : (v : Event) → eqb (v .kind) 1 ≡ true → request v ≡ Arrive (v .number) (v .fragment)
+request-arrive v a = ap {B = Request} (λ (b : Bool). elim b [ true ↦ Arrive (v .number) (v .fragment) | false ↦ elim (eqb (v .kind) 2) [ true ↦ Commit (v .number) | false ↦ Abort (v .number) ] ]) a
+
+request-decides : (v : Event) (b : Bool) → eqb (v .kind) 1 ≡ false → eqb (v .kind) 2 ≡ b → request v ≡ elim b as (λ _. Request) [ true ↦ Commit (v .number) | false ↦ Abort (v .number) ]
+request-decides v b a e =
+    ap {B = Request} (λ (x : Bool). elim x [ true ↦ Arrive (v .number) (v .fragment) | false ↦ elim (eqb (v .kind) 2) [ true ↦ Commit (v .number) | false ↦ Abort (v .number) ] ]) a
+    ∙ ap {B = Request} (λ (x : Bool). elim x [ true ↦ Commit (v .number) | false ↦ Abort (v .number) ]) e
+
+-- the front's number, read from its row
+front-back : (live runs undo room : List ℕ) (c : Counts) (us : List Uncommitted) (ws : List Waiting) (n : ℕ) → Work live runs undo room c [] us ws [] room → frontIs (c .uncommitted) live n ≡ front (λ (u : Uncommitted). eqb (u .number) n) us
+front-back live runs undo room c [] ws n w = ap (λ (x : ℕ). not (eqb x 0) && eqb (getD live 0 0) n) (sym (w .uncommitted))
+front-back live runs undo room c (u ∷ us) ws n w =
+    ap (λ (x : ℕ). not (eqb x 0) && eqb (getD live 0 0) n) (sym (w .uncommitted))
+    ∙ ap (λ (b : Bool). not b && eqb (getD live 0 0) n) (ne-eqb (suc (length us)) 0 (λ z. omega arith))
+    ∙ ap (λ (x : ℕ). eqb x n) (ap (λ (l : List ℕ). getD l 0 0) (w .at-live) ∙ number-back 1792 [] (requeued u) (liveRows us ws) 0 tt (w .eights .0) refl)
+
+module _ (live₀ runs undo room : List ℕ) (cells : Cells) (c : Counts) (v : Event) (e : Engine) (rd : Ready live₀ runs undo room cells c v e) where
+  pub abort-begun : eqb (v .kind) 1 ≡ false → eqb (v .kind) 2 ≡ false → (runs′ undo′ : List ℕ) (cells′ : Cells) (c′ : Counts) → Aborted runs undo cells c runs′ undo′ cells′ c′ → c′ .first + c′ .uncommitted + c′ .waiting ≤ 64
+      → Begun live₀ runs′ undo′ room cells′ c′ room (taken (request v) e cells)
+  abort-begun a b runs′ undo′ cells′ c′ ab k =
+      subst (λ (q : Request). Begun live₀ runs′ undo′ room cells′ c′ room (taken q e cells)) (sym (request-decides v false a b))
+      (begun-aborted live₀ runs undo room runs′ undo′ cells cells′ c c′ (e .count) (e .largest) (e .uncommitted) (e .waiting) (v .number) (rd .work) (parts live₀ runs undo room cells c v e rd) (decided live₀ runs undo room cells c v e rd a) ab k)
+
+  pub commit-begun : eqb (v .kind) 1 ≡ false → eqb (v .kind) 2 ≡ true → (runs′ undo′ room′ : List ℕ) (c′ : Counts) → Committed live₀ runs undo room c runs′ undo′ room′ c′ → c′ .first + c′ .uncommitted + c′ .waiting ≤ 64
+      → Begun live₀ runs′ undo′ room′ cells c′ room (taken (request v) e cells)
+  commit-begun a b runs′ undo′ room′ c′ cm k =
+      subst (λ (q : Request). Begun live₀ runs′ undo′ room′ cells c′ room (taken q e cells)) (sym (request-decides v true a b))
+      (begun-committed live₀ runs undo room runs′ undo′ room′ cells c c′ (e .count) (e .largest) (e .uncommitted) (e .waiting) (v .number) (rd .work) (parts live₀ runs undo room cells c v e rd) (decided live₀ runs undo room cells c v e rd a) cm k)
+
+  pub continue-begun : eqb (v .kind) 1 ≡ true → frontIs (c .uncommitted) live₀ (v .number) ≡ true → (runs′ undo′ room′ : List ℕ) (cells′ : Cells) (c′ : Counts) → Continued live₀ runs undo room cells c (v .fragment) runs′ undo′ room′ cells′ c′
+      → c′ .first + c′ .uncommitted + c′ .waiting ≤ 64 → Begun live₀ runs′ undo′ room′ cells′ c′ room (taken (request v) e cells)
+  continue-begun a fr runs′ undo′ room′ cells′ c′ cn k =
+      subst (λ (q : Request). Begun live₀ runs′ undo′ room′ cells′ c′ room (taken q e cells)) (sym (request-arrive v a))
+      (go (e .uncommitted) (rd .work) (parts live₀ runs undo room cells c v e rd) (rd .passed .eight) (rd .passed .eleven) (sym (front-back live₀ runs undo room c (e .uncommitted) (e .waiting) (v .number) (rd .work)) ∙ fr))
+    where
+      n : ℕ
+      n = v .number
+
+      go : (us : List Uncommitted) → Work live₀ runs undo room c [] us (e .waiting) [] room → Sound (e .count) (e .largest) us (e .waiting)
+          → (eqb (v .kind) 1 && (front (λ (u : Uncommitted). eqb (u .number) (v .number)) us && front (λ (u : Uncommitted). finished (u .state)) us)) ≡ false
+          → (eqb (v .kind) 1 && (front (λ (u : Uncommitted). eqb (u .number) (v .number)) us && front (λ (u : Uncommitted). leb mostFragments (u .ran)) us)) ≡ false
+          → front (λ (u : Uncommitted). eqb (u .number) (v .number)) us ≡ true → Begun live₀ runs′ undo′ room′ cells′ c′ room (arrived (v .number) (v .fragment) cells us (e .waiting))
+      go [] w s p8 p11 h = absurd (true≢false (sym h))
+      go (u ∷ us) w s p8 p11 h =
+          subst (λ (b : Bool). Begun live₀ runs′ undo′ room′ cells′ c′ room (elim b as (λ _. Queues) [ false ↦ joined (v .number) (v .fragment) cells (u ∷ us) (e .waiting) | true ↦ continued (v .fragment) cells u us (e .waiting) ])) (sym h)
+          (begun-continued live₀ runs undo room runs′ undo′ room′ cells cells′ c c′ (v .fragment) (e .count) (e .largest) u us (e .waiting) w s
+          (and-if (eqb (u .number) (v .number)) (finished (u .state)) h (and-if (eqb (v .kind) 1) _ a p8))
+          (leb-false mostFragments (u .ran) (and-if (eqb (u .number) (v .number)) (leb mostFragments (u .ran)) h (and-if (eqb (v .kind) 1) _ a p11)))
+          (arrives-storable e (callOf v cells room) a (rd .passed)) (rd .words) cn k)
+
+  pub join-begun : eqb (v .kind) 1 ≡ true → frontIs (c .uncommitted) live₀ (v .number) ≡ false → (live′ : List ℕ) (c′ : Counts) → live′ ≡ sets live₀ (28 * (c .first + c .uncommitted + c .waiting)) (rowWords (v .number) (v .fragment)) → c′ ≡ waitingMore c
+      → Begun live′ runs undo room cells c′ room (taken (request v) e cells)
+  join-begun a fr live′ c′ el ec =
+      subst (λ (q : Request). Begun live′ runs undo room cells c′ room (taken q e cells)) (sym (request-arrive v a))
+      (subst (λ (q : Queues). Begun live′ runs undo room cells c′ room q) (sym (joins (e .uncommitted) not-front))
+      (begun-joined live₀ live′ runs undo room cells c c′ (v .number) (v .fragment) (e .count) (e .largest) (e .uncommitted) (e .waiting) (rd .work) (parts live₀ runs undo room cells c v e rd) (ltb-true (e .largest) (v .number) fresh)
+      (arrives-storable e (callOf v cells room) a (rd .passed))
+      (leb-false mostLive (length (e .uncommitted) + length (e .waiting)) (and-if (eqb (v .kind) 1 && new (v .number) e) (leb mostLive (length (e .uncommitted) + length (e .waiting))) (both (eqb (v .kind) 1) (new (v .number) e) a fresh) (rd .passed .ten))) (rd .words) el ec))
+    where
+      not-front : front (λ (u : Uncommitted). eqb (u .number) (v .number)) (e .uncommitted) ≡ false
+      not-front = sym (front-back live₀ runs undo room c (e .uncommitted) (e .waiting) (v .number) (rd .work)) ∙ fr
+
+      fresh : new (v .number) e ≡ true
+      fresh = front-or-new (live (v .number) e) (new (v .number) e) (isFront (v .number) e) (rd .passed .six) (rd .passed .seven) not-front
+
+      joins : (us : List Uncommitted) → front (λ (u : Uncommitted). eqb (u .number) (v .number)) us ≡ false → arrived (v .number) (v .fragment) cells us (e .waiting) ≡ joined (v .number) (v .fragment) cells us (e .waiting)
+      joins [] h = refl
+      joins (u ∷ us) h = ap {B = Queues} (λ (b : Bool). elim b [ false ↦ joined (v .number) (v .fragment) cells (u ∷ us) (e .waiting) | true ↦ continued (v .fragment) cells u us (e .waiting) ]) h
+
+pub front-some : (n : ℕ) (l : List ℕ) (m : ℕ) → frontIs n l m ≡ true → 0 < n
+front-some zero l m h = absurd (true≢false (sym h))
+front-some (suc n) l m h = omega arith
+
+-- refusal 1 stands before the others
+pub refused-sound : (e : Engine) (k : Call) → sound e ≡ true → firstOf (behindFirst (rows e k)) ≡ refusal e k
+unfolding refusal rows
+refused-sound e k h = ap {B = ℕ} (λ (b : Bool). elim (not b) [ true ↦ 1 | false ↦ firstOf (behindFirst (rows e k)) ]) (sym h)
+
+pub refused-unsound : (e : Engine) (k : Call) → sound e ≡ false → 1 ≡ refusal e k
+unfolding refusal rows
+refused-unsound e k h = ap {B = ℕ} (λ (b : Bool). elim (not b) [ true ↦ 1 | false ↦ firstOf (behindFirst (rows e k)) ]) (sym h)

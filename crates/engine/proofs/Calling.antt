@@ -1,0 +1,166 @@
+-- A call put together: what a refusal and an accepted call leave is what the contract says.
+use Prim.Native.Nat.{ℕ, zero, suc, _+_, _*_, _≤_, _<_}
+use native.Mathlib.Omega.{arith}
+use borrow.Author.Tests.{not-false, ltb-false, eq-eqb, ne-eqb, lt-ltb, le-ltb}
+use mathlib.Core.Path.{_≡_, refl, sym, ap, _∙_, subst}
+use mathlib.Core.Bool.{Bool, true, false, _||_}
+use mathlib.Core.List.{List, [], _∷_, _++_, map}
+use lib.Dec.{eqb, ltb}
+use lib.ListN.{length, length-append, length-map}
+use lib.Seq.{sets}
+use Rattle.model.specs.Limits.{leastRoom, mostCells}
+use Rattle.model.specs.Operations.{Cells, pick}
+use Rattle.model.specs.Transactions.{Uncommitted, Waiting, Engine, allWords, filled}
+use Rattle.model.specs.Steps.{Queues, requeued}
+use Rattle.model.specs.Refusals.{Call, Stepped, Request, Arrive, Commit, Abort, refusal, request, taken, new, largestAfter, respond, step}
+use Rattle.model.specs.Refusals as Refusals
+use Rattle.model.specs.declared.Event.{Event}
+use Rattle.model.proofs.Chain.{All}
+use Rattle.model.proofs.Passing.{Passed, passed}
+use Rattle.refusals.specs.Rest.{callOf}
+use Rattle.record.specs.declared.Record.{Record}
+use Rattle.record.specs.Words.{pack, allRows, allRuns, liveRows}
+use Rattle.record.specs.View.{numbersFrom, uncommittedOf, waitingOf, viewOf, view}
+use Rattle.record.proofs.Rows.{shift-padded, zeros}
+use Rattle.record.proofs.Back.{Eight, length-rows, rows-append, eights-first}
+use Rattle.operations.specs.Laid.{padded}
+use Rattle.tidy.specs.Tidied.{Canonical}
+use Rattle.queues.specs.Work.{Work, Left}
+use Rattle.queues.specs.declared.Counts.{Counts}
+use Rattle.engine.specs.Called.{stepped, nextOf, called, cellsAfter, roomAfter, freshOf}
+use Rattle.engine.specs.Ready.{Ready, largestBy}
+use Rattle.engine.specs.declared.Called.{Called}
+use Rattle.engine.specs.declared.Fresh.{Fresh}
+use Rattle.engine.proofs.Viewed.{First, view-count, view-waits, view-first, view-waiting}
+
+-- the three equations of the contract
+abbrev pub Meets : Record → Event → Cells → List ℕ → Called → Cells → List ℕ → Type 0
+Meets r v cells room d cells′ room′ = (d ≡ called r v cells room) × ((cells′ ≡ cellsAfter r v cells room) × (room′ ≡ roomAfter r v cells room))
+
+-- the same, of the step that the refusal's number k gives
+abbrev MeetsOf : Record → Stepped → Called → Cells → List ℕ → Type 0
+MeetsOf r s d cells′ room′ = (d ≡ record { number = s .number; answers = length (s .answers); next = nextOf r s }) × ((cells′ ≡ s .cells) × (room′ ≡ s .room))
+
+meets-by : (r : Record) (v : Event) (cells room : List ℕ) (d : Called) (cells′ room′ : List ℕ) (k : ℕ) → refusal (view r) (callOf v cells room) ≡ k
+    → MeetsOf r (respond k (view r) (callOf v cells room)) d cells′ room′ → Meets r v cells room d cells′ room′
+unfolding called stepped step
+meets-by r v cells room d cells′ room′ k e m = subst (λ (x : ℕ). MeetsOf r (respond x (view r) (callOf v cells room)) d cells′ room′) (sym e) m
+
+pub refused-call : (r : Record) (v : Event) (cells room : List ℕ) (k : ℕ) → k ≡ refusal (view r) (callOf v cells room) → (k ≡ 0 → ⊥)
+    → Meets r v cells room (record { number = k; answers = 0; next = r }) cells room
+refused-call r v cells room zero e ne = absurd (ne refl)
+refused-call r v cells room (suc k) e ne = meets-by r v cells room (record { number = suc k; answers = 0; next = r }) cells room (suc k) (sym e) (refl, (refl, refl))
+
+-- no answers fill nothing
+pub filled-none : (room : List ℕ) → room ≡ filled [] room
+unfolding allWords
+filled-none room = refl
+
+-- the rows of any record's live ones have eight places
+rows-of : (us : List Uncommitted) (ws : List Waiting) → All First us → All Eight ws → All Eight (liveRows us ws)
+rows-of [] ws k e = e
+rows-of (u ∷ us) ws k e = (k .0, rows-of us ws (k .1) e)
+
+-- what the checks and the tidying leave is ready for the steps
+pub ready : (r : Record) (v : Event) (cells room : List ℕ) (n : ℕ) (live runs undo : List ℕ) → refusal (view r) (callOf v cells room) ≡ 0
+    → Canonical (uncommittedOf (r .live) 0 (r .runs) 0 (r .undo) 0 (r .uncommitted)) (waitingOf (r .live) (28 * r .uncommitted) (r .waiting)) n live runs undo
+    → length (v .fragment .row) ≡ 8
+    → Ready live runs undo room cells (record { first = 0; uncommitted = r .uncommitted; waiting = r .waiting; entries = n; answers = 0 }) v (view r)
+unfolding viewOf
+ready r v cells room n live runs undo z t h =
+    let p : Passed (view r) (callOf v cells room) = passed (view r) (callOf v cells room) z in
+    record {
+      work = record {
+        at-live = t .live;
+        at-runs = t .runs;
+        at-undo = t .undo;
+        at-room = filled-none room;
+        first = refl;
+        uncommitted = view-count r;
+        waiting = view-waits r;
+        entries = sym (t .entries);
+        answers = refl;
+        eights = rows-of (view r .uncommitted) (view r .waiting) (view-first r) (view-waiting r);
+        enough = ltb-false (length room) leastRoom (p .two);
+      };
+      passed = p;
+      words = h;
+    }
+
+-- the largest number, of the request and of the event's words
+largest-by : (v : Event) (e : Engine) → largestBy (v .kind) (v .number) (e .largest) ≡ largestAfter (request v) e
+largest-by v e = go (eqb (v .kind) 1) (eqb (v .kind) 2) (ltb (e .largest) (v .number)) refl
+  where
+    go : (a b n : Bool) → ltb (e .largest) (v .number) ≡ n → pick a (pick n (v .number) (e .largest)) (e .largest)
+        ≡ largestAfter (elim a [ true ↦ Arrive (v .number) (v .fragment) | false ↦ elim b [ true ↦ Commit (v .number) | false ↦ Abort (v .number) ] ]) e
+    go true b true x = ap {B = ℕ} (λ (y : Bool). elim y [ true ↦ v .number | false ↦ e .largest ]) (sym x)
+    go true b false x = ap {B = ℕ} (λ (y : Bool). elim y [ true ↦ v .number | false ↦ e .largest ]) (sym x)
+    go false true n x = refl
+    go false false n x = refl
+
+-- the row of live ones moved to its start: those that have gone leave no trace
+closed : (live live′ : List ℕ) (gone ws : List Waiting) (k m : ℕ) → live ≡ padded 1792 (allRows (gone ++ ws)) → All Eight gone → All Eight (gone ++ ws) → length gone ≡ k → length (gone ++ ws) ≡ m → m ≤ 64
+    → live′ ≡ sets live 0 (numbersFrom live (28 * k) (28 * m)) → live′ ≡ padded 1792 (allRows ws)
+closed live live′ gone ws k m el eg ea ek em h e =
+    let at : live ≡ padded 1792 (allRows gone ++ allRows ws) = el ∙ ap (padded 1792) (rows-append gone ws) in
+    let lg : length (allRows gone) ≡ 28 * k = length-rows gone eg ∙ ap (λ (x : ℕ). 28 * x) ek in
+    let la : length (allRows gone ++ allRows ws) ≡ 28 * m = ap length (sym (rows-append gone ws)) ∙ length-rows (gone ++ ws) ea ∙ ap (λ (x : ℕ). 28 * x) em in
+    e ∙ ap (λ (x : List ℕ). sets x 0 (numbersFrom x (28 * k) (28 * m))) at ∙ shift-padded 1792 (allRows gone) (allRows ws) (28 * k) (28 * m) lg la (omega arith)
+
+pub accepted-call : (r : Record) (v : Event) (cells room : List ℕ) (live live′ runs undo room′ : List ℕ) (cells′ : Cells) (c : Counts) (top : ℕ) → refusal (view r) (callOf v cells room) ≡ 0
+    → Left live runs undo room′ c cells′ [] room (taken (request v) (view r) cells) → c .first + c .uncommitted + c .waiting ≤ 64
+    → live′ ≡ sets live 0 (numbersFrom live (28 * c .first) (28 * (c .first + c .uncommitted + c .waiting))) → top ≡ largestBy (v .kind) (v .number) (r .largest)
+    → Meets r v cells room (record { number = 0; answers = c .answers; next = record { count = r .count; largest = top; uncommitted = c .uncommitted; waiting = c .waiting; live = live′; runs = runs; undo = undo } }) cells′ room′
+unfolding pack viewOf
+accepted-call r v cells room live live′ runs undo room′ cells′ c top z l h el et =
+    meets-by r v cells room _ cells′ room′ 0 z (
+      (λ j. record {
+        number = 0;
+        answers = sym (l .work .answers) j;
+        next = record {
+          count = r .count;
+          largest = (et ∙ largest-by v (view r)) j;
+          uncommitted = sym (l .work .uncommitted) j;
+          waiting = sym (l .work .waiting) j;
+          live = rows j;
+          runs = l .work .at-runs j;
+          undo = l .work .at-undo j;
+        };
+      }),
+      (l .stands, l .work .at-room),
+    )
+  where
+    q : Queues
+    q = taken (request v) (view r) cells
+
+    long : length (l .gone ++ liveRows (q .uncommitted) (q .waiting)) ≡ c .first + c .uncommitted + c .waiting
+    long = omega (arith, length-append (l .gone) (liveRows (q .uncommitted) (q .waiting)), length-append (map requeued (q .uncommitted)) (q .waiting), length-map (q .uncommitted) requeued, l .work .first, l .work .uncommitted, l .work .waiting)
+
+    rows : live′ ≡ padded 1792 (allRows (liveRows (q .uncommitted) (q .waiting)))
+    rows = closed live live′ (l .gone) (liveRows (q .uncommitted) (q .waiting)) (c .first) (c .first + c .uncommitted + c .waiting) (l .work .at-live) (eights-first (l .gone) _ (l .work .eights)) (l .work .eights) (l .work .first) long h el
+
+-- Starting
+
+-- what starting returns: with 3 or with 0
+abbrev pub freshBy : Bool → ℕ → Fresh
+freshBy b n = record { number = pick b 3 0; next = record { count = pick b 0 n; largest = 0; uncommitted = 0; waiting = 0; live = zeros 1792; runs = zeros 256; undo = zeros 368 } }
+
+fresh-by : (b : Bool) (n : ℕ) → (eqb n 0 || ltb mostCells n) ≡ b → freshBy b n ≡ freshOf n
+unfolding freshOf Refusals.start pack padded allRows allRuns
+fresh-by b n e = first b ∙ ap {B = Fresh} (λ (x : Bool). record { number = chosen x .number; next = pack (chosen x .engine) }) (sym e)
+  where
+    chosen : Bool → Refusals.Started
+    chosen x = pick x (record { number = 3; engine = Refusals.empty 0 }) (record { number = 0; engine = Refusals.empty n })
+
+    first : (x : Bool) → freshBy x n ≡ record { number = chosen x .number; next = pack (chosen x .engine) }
+    first true = refl
+    first false = refl
+
+pub start-none : (n : ℕ) → n ≡ 0 → freshBy true n ≡ freshOf n
+start-none n e = fresh-by true n (ap (λ (b : Bool). b || ltb mostCells n) (eq-eqb n 0 e))
+
+pub start-many : (n : ℕ) → (n ≡ 0 → ⊥) → mostCells < n → freshBy true n ≡ freshOf n
+start-many n e h = fresh-by true n (ap (λ (b : Bool). b || ltb mostCells n) (ne-eqb n 0 e) ∙ lt-ltb mostCells n h)
+
+pub start-some : (n : ℕ) → (n ≡ 0 → ⊥) → n ≤ mostCells → freshBy false n ≡ freshOf n
+start-some n e h = fresh-by false n (ap (λ (b : Bool). b || ltb mostCells n) (ne-eqb n 0 e) ∙ le-ltb mostCells n h)

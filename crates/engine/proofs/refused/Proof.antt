@@ -1,0 +1,28 @@
+use mathlib.Core.Path.{sym, _∙_}
+use Rattle.engine.proofs.Accepting.{refused-sound, refused-unsound}
+use borrow.Author.Needs.{needs}
+use Rattle.engine.proofs.refused.Statement.{statement}
+use Rattle.engine.proofs.refused.Tie as tie
+use Rattle.engine.proofs.refused.Reads as reads
+use Rattle.engine.proofs.refused.Lts as lts
+use Rattle.refusals.proofs.refused_row.Reads as refused-row-reads
+use Rattle.soundness.proofs.is_sound.Reads as is-sound-reads
+
+-- src/lib.rt:38:8
+is-sound-requires : tie.Need-is-sound-requires
+is-sound-requires c κs = search needs
+
+-- src/lib.rt:39:9
+refused-row-requires : tie.Need-refused-row-requires
+refused-row-requires c κs = search needs
+
+-- src/lib.rt:35:1
+returns : tie.Need-returns
+returns c = c .refused-row .ensures ∙ refused-sound _ _ (sym (c .before .before .is-sound .ensures) ∙ c .before .if1 .taken)
+
+-- src/lib.rt:35:1
+returns-2 : tie.Need-returns-2
+returns-2 c = refused-unsound _ _ (sym (c .before .is-sound .ensures) ∙ c .if1 .left)
+
+pub refused-spec : {M : Type 1} → statement M
+refused-spec = tie.close (tie.spec is-sound-requires refused-row-requires returns returns-2)
