@@ -27,9 +27,9 @@ use Rattle.record.specs.Words.{rowWords, allRows, liveRows}
 use Rattle.record.proofs.Rows.{lay-padded, shift-padded}
 use Rattle.record.proofs.Back.{Eight, Known, known-of, length-row, length-rows, rows-append, number-back, eights-first, eights-rest}
 use Rattle.refusals.specs.Rest.{callOf, frontIs, behindFirst}
-use Rattle.queues.specs.declared.Counts.{Counts}
-use Rattle.queues.specs.Work.{Work, Left, Small, Fair, Drained, Committed, Aborted, Continued}
-use Rattle.engine.specs.Ready.{Ready, waitingMore}
+use Rattle.engine.specs.declared.queues.Counts.{Counts}
+use Rattle.engine.specs.Work.{waitingMore, Work, Left, Small, Fair, Drained, Committed, Aborted, Continued}
+use Rattle.engine.specs.Ready.{Ready}
 
 -- the rows hold lists whose drain, with the answers sent so far, is q
 pub record Begun (live runs undo room : List ℕ) (cells : Cells) (c : Counts) (room₀ : List ℕ) (q : Queues) : Type 0 where

@@ -25,8 +25,8 @@ use Rattle.record.proofs.Rows.{shift-padded, zeros}
 use Rattle.record.proofs.Back.{Eight, length-rows, rows-append, eights-first}
 use Rattle.operations.specs.Laid.{padded}
 use Rattle.tidy.specs.Tidied.{Canonical}
-use Rattle.queues.specs.Work.{Work, Left}
-use Rattle.queues.specs.declared.Counts.{Counts}
+use Rattle.engine.specs.Work.{Work, Left}
+use Rattle.engine.specs.declared.queues.Counts.{Counts}
 use Rattle.engine.specs.Called.{stepped, nextOf, called, cellsAfter, roomAfter, freshOf}
 use Rattle.engine.specs.Ready.{Ready, largestBy}
 use Rattle.engine.specs.declared.Called.{Called}

@@ -26,7 +26,7 @@ use Rattle.record.proofs.Rows.{numbers-same, numbers-whole}
 use Rattle.record.proofs.Back.{Eight, Fit, Known, known-of, view-pack}
 use Rattle.engine.specs.Called.{stepped, nextOf, called, freshOf}
 use Rattle.engine.specs.Carried.{Words, AllWords, returned, answerFrom, answerAt, answerOf, RecordRun, onwardR, runsR, freshR, LendsR, AllLendR, CellsHoldR, SettlingOrderR, PlainRightR, NoAbortR, DependentRightR, RecordDemand3}
-use Rattle.queues.proofs.Rooms.{length-words}
+use Rattle.engine.proofs.Rooms.{length-words}
 use Rattle.engine.proofs.Fine.{Small, Fine, rows-eight, taken-fine}
 use Rattle.engine.proofs.Viewed.{First, view-count, view-largest, view-first, view-waiting}
 

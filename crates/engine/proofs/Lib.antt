@@ -2,5 +2,11 @@ pub mod Unique
 pub mod Fine
 pub mod Viewed
 pub mod Carrying
+pub mod Reading
+pub mod Rooms
+pub mod Placing
+pub mod Draining
+pub mod Settling
+pub mod Deciding
 pub mod Accepting
 pub mod Calling

@@ -1,3 +1,4 @@
 pub mod Called
 pub mod Carried
+pub mod Work
 pub mod Ready

@@ -9,16 +9,13 @@ use Rattle.model.specs.Transactions.{Engine}
 use Rattle.model.specs.declared.Event.{Event}
 use Rattle.model.proofs.Passing.{Passed}
 use Rattle.refusals.specs.Rest.{callOf}
-use Rattle.queues.specs.Work.{Work}
-use Rattle.queues.specs.declared.Counts.{Counts}
+use Rattle.engine.specs.Work.{Work}
+use Rattle.engine.specs.declared.queues.Counts.{Counts}
 
 pub record Ready (live runs undo room : List ℕ) (cells : Cells) (c : Counts) (v : Event) (e : Engine) : Type 0 where
   pub work : Work live runs undo room c [] (e .uncommitted) (e .waiting) [] room
   pub passed : Passed e (callOf v cells room)
   pub words : length (v .fragment .row) ≡ 8
-
-abbrev pub waitingMore : Counts → Counts
-waitingMore c = record { first = c .first; uncommitted = c .uncommitted; waiting = c .waiting + 1; entries = c .entries; answers = c .answers }
 
 -- the largest number accepted, by kind
 abbrev pub largestBy : ℕ → ℕ → ℕ → ℕ

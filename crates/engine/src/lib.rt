@@ -9,13 +9,15 @@ ghost use Rattle.model.specs.Refusals.{refusal, request, taken};
 ghost use Rattle.record.specs.Words.{rowWords};
 ghost use Rattle.record.specs.View.{viewOf};
 ghost use Rattle.refusals.specs.Rest.{callOf};
-ghost use Rattle.queues.specs.Work.{Left};
+ghost use Rattle.engine.specs.Work.{Left, waitingMore};
 ghost use Rattle.engine.specs.Called.{called, cellsAfter, roomAfter, freshOf};
-ghost use Rattle.engine.specs.Ready.{Ready, waitingMore, largestBy};
+ghost use Rattle.engine.specs.Ready.{Ready, largestBy};
+use crate::queues::Counts;
 use model::Event;
 use model::Fragment;
-use queues::Counts;
 use record::Record;
+
+mod queues;
 
 // What a call returns: the number, the count of answers, and the next record.
 pub struct Called {
@@ -71,13 +73,7 @@ pub(crate) fn join_waiting(live: &mut [u32], c: Counts, number: u32, f: Fragment
 {
     let w = record::row_words(number, f);
     record::lay(live, 28 * (c.first + c.uncommitted + c.waiting), &w, 28);
-    Counts {
-        first: c.first,
-        uncommitted: c.uncommitted,
-        waiting: c.waiting + 1,
-        entries: c.entries,
-        answers: c.answers,
-    }
+    c.waits()
 }
 
 // An accepted fragment: the front's, or a new one that waits; then the drain.

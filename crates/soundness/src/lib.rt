@@ -53,11 +53,11 @@ pub(crate) fn reply_ok(runs: &[u32], c: usize) -> bool
         return false;
     }
     let place = operations::number_at(runs, c + 4);
-    if 8 < place {
+    if model::MOST_OPERATIONS < place {
         return false;
     }
     let numbers = operations::number_at(runs, c + 5);
-    numbers <= 8
+    numbers <= model::MOST_OPERATIONS
 }
 
 // "fragments run beyond the limits", "no fragment run", "undo entries beyond 8 for each fragment its owner ran", or a word that stands for no
@@ -79,7 +79,7 @@ pub(crate) fn run_ok(runs: &[u32], c: usize, most: u32) -> bool
         return false;
     }
     let entries = operations::number_at(runs, c + 3);
-    if 8 * ran < entries {
+    if model::MOST_OPERATIONS * ran < entries {
         return false;
     }
     reply_ok(runs, c)
@@ -97,7 +97,7 @@ pub(crate) fn front_ok(live: &[u32], runs: &[u32]) -> bool
     if reply != 0 {
         return false;
     }
-    run_ok(runs, 0, 8)
+    run_ok(runs, 0, model::MOST_FRAGMENTS)
 }
 
 // "one behind the front with more than one run", "an uncommitted single whose answer is not held": not the one whose row starts at b and whose

@@ -65,14 +65,14 @@ pub fn tidy(
 ) -> u32
     ensures { λ r. ⌜ ((count largest : ℕ) → Tidied count largest uncommitted waiting (now (live .entry)) (now (runs .entry)) (now (undo .entry)) r (now (live .exit)) (now (runs .exit)) (now (undo .exit))) ⌝ }
 {
-    if 16 < uncommitted {
+    if model::DEPTH < uncommitted {
         return 0;
     }
-    if 64 < waiting {
+    if model::MOST_LIVE < waiting {
         return 0;
     }
     let n = entries_in(runs, uncommitted);
-    if 184 < n {
+    if (model::MOST_ENTRIES as usize) < n {
         return 0;
     }
     let entries = n as u32;

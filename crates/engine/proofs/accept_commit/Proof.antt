@@ -6,8 +6,8 @@ use Rattle.engine.proofs.accept_commit.Statement.{statement}
 use Rattle.engine.proofs.accept_commit.Tie as tie
 use Rattle.engine.proofs.accept_commit.Reads as reads
 use Rattle.engine.proofs.accept_commit.Lts as lts
-use Rattle.queues.proofs.commit.Reads as commit-reads
-use Rattle.queues.proofs.drain.Reads as drain-reads
+use Rattle.engine.proofs.queues.commit.Reads as commit-reads
+use Rattle.engine.proofs.queues.drain.Reads as drain-reads
 
 -- src/lib.rt:86:9
 commit-requires : tie.Need-commit-requires

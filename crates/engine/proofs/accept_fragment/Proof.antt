@@ -7,8 +7,8 @@ use Rattle.engine.proofs.accept_fragment.Tie as tie
 use Rattle.engine.proofs.accept_fragment.Reads as reads
 use Rattle.engine.proofs.accept_fragment.Lts as lts
 use Rattle.engine.proofs.join_waiting.Reads as join-waiting-reads
-use Rattle.queues.proofs.continue_front.Reads as continue-front-reads
-use Rattle.queues.proofs.drain.Reads as drain-reads
+use Rattle.engine.proofs.queues.continue_front.Reads as continue-front-reads
+use Rattle.engine.proofs.queues.drain.Reads as drain-reads
 use Rattle.refusals.proofs.is_front.Reads as is-front-reads
 
 -- src/lib.rt:71:8

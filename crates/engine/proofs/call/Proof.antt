@@ -1,6 +1,6 @@
 use Rattle.model.specs.Refusals.{refusal, sound, request, taken}
 use Rattle.engine.specs.Ready.{Ready}
-use Rattle.queues.specs.declared.Counts.{Counts}
+use Rattle.engine.specs.declared.queues.Counts.{Counts}
 use native.Mathlib.Omega.{arith}
 use mathlib.Core.Path.{_≡_, refl, sym, _∙_}
 use mathlib.Core.List.{List}

@@ -3,53 +3,54 @@ use mathlib.Core.Path.{_≡_, refl, ap, _∙_}
 use mathlib.Core.List.{List}
 use lib.ListN.{length}
 use lib.Seq.{sets}
-use Rattle.queues.proofs.Reading.{laid-whole}
+use Rattle.engine.proofs.Reading.{laid-whole}
 use borrow.Author.Needs.{needs}
 use Rattle.engine.proofs.join_waiting.Statement.{statement}
 use Rattle.engine.proofs.join_waiting.Tie as tie
 use Rattle.engine.proofs.join_waiting.Reads as reads
 use Rattle.engine.proofs.join_waiting.Lts as lts
+use Rattle.engine.proofs.queues.Counts.waits.Reads as waits-reads
 use Rattle.record.proofs.lay.Reads as lay-reads
 use Rattle.record.proofs.row_words.Reads as row-words-reads
 
--- src/lib.rt:51:13
+-- src/lib.rt:74:13
 row-words-requires : tie.Need-row-words-requires
 row-words-requires c κs = search needs
 
--- src/lib.rt:52:29
+-- src/lib.rt:75:29
 add-lay : tie.Need-add-lay
 add-lay c = search needs
 
--- src/lib.rt:52:29
+-- src/lib.rt:75:29
 add-lay-2 : tie.Need-add-lay-2
 add-lay-2 c = search needs
 
--- src/lib.rt:52:23
+-- src/lib.rt:75:23
 mul-lay : tie.Need-mul-lay
 mul-lay c = search needs
 
--- src/lib.rt:52:67
+-- src/lib.rt:75:67
 slice-aggregate-lay : tie.Need-slice-aggregate-lay
 slice-aggregate-lay c = search needs
 
--- src/lib.rt:52:5
+-- src/lib.rt:75:5
 lay-requires : tie.Need-lay-requires
 lay-requires c κs = search needs
 
--- src/lib.rt:56:18
-add-t10 : tie.Need-add-t10
-add-t10 c = search needs
+-- src/lib.rt:76:5
+waits-requires : tie.Need-waits-requires
+waits-requires c κs = search needs
 
--- src/lib.rt:46:1
+-- src/lib.rt:69:1
 same-length : tie.Need-same-length
 same-length c = search needs
 
--- src/lib.rt:46:1
+-- src/lib.rt:69:1
 returns : tie.Need-returns
 returns c = let a = c .before .before .before .before .before .before .before .before .before .before .args in
     let w = c .before .before .before .before .before .before .before .before .row-words .result in
     let e : length w ≡ 28 = search (c .before .before .before .before .before .before .before .before .row-words, needs) in
-    (refl, c .before .before .before .lay .ensures ∙ ap (sets (a .live .now) (28 * (a .c .first + a .c .uncommitted + a .c .waiting))) (laid-whole w 28 e ∙ c .before .before .before .before .before .before .before .before .row-words .ensures))
+    (c .waits .ensures, c .before .before .before .lay .ensures ∙ ap (sets (a .live .now) (28 * (a .c .first + a .c .uncommitted + a .c .waiting))) (laid-whole w 28 e ∙ c .before .before .before .before .before .before .before .before .row-words .ensures))
 
 pub join-waiting-spec : {M : Type 1} → statement M
 join-waiting-spec =
@@ -61,6 +62,6 @@ join-waiting-spec =
     mul-lay
     slice-aggregate-lay
     lay-requires
-    add-t10
+    waits-requires
     same-length
     returns)

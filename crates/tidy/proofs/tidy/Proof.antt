@@ -21,6 +21,10 @@ returns-2 c = λ ct top hl hr hu s. let a = c .before .before .before .before .b
 entries-in-requires : tie.Need-entries-in-requires
 entries-in-requires c κs = search needs
 
+-- src/lib.rt:75:9
+cast-if3 : tie.Need-cast-if3
+cast-if3 c = search needs
+
 -- src/lib.rt:70:9
 same-length : tie.Need-same-length
 same-length c = search needs
@@ -90,6 +94,7 @@ tidy-spec =
     returns
     returns-2
     entries-in-requires
+    cast-if3
     same-length
     returns-3
     cast-entries

@@ -1,0 +1,190 @@
+-- Commit, abort and a further fragment of the front, in plain terms.
+use Prim.Native.Nat.{ℕ, zero, suc, _+_, _*_, _-_, min, _≤_, _<_}
+use native.Mathlib.Omega.{arith}
+use borrow.Author.Tests.{ne-eqb, eq-eqb}
+use mathlib.Core.Path.{_≡_, refl, sym, ap, _∙_, subst}
+use mathlib.Core.Bool.{Bool, true, false}
+use mathlib.Core.List.{List, [], _∷_, _++_, append-assoc, append-nil, map}
+use lib.Dec.{eqb}
+use lib.ListN.{length, getD, take, replicate, length-append, length-map, length-take}
+use lib.Seq.{sets}
+use Rattle.model.specs.Operations.{Cells, Outcome, pick, last, operations}
+use Rattle.model.specs.Transactions.{Uncommitted, Waiting, Answer, answer, undoList, filled}
+use Rattle.model.specs.Steps.{run, requeued, settled, undone, again, stateAfter}
+use Rattle.model.specs.Steps as Steps
+use Rattle.model.specs.declared.Fragment.{Fragment}
+use Rattle.model.specs.declared.Undo.{Undo}
+use Rattle.model.proofs.Chain.{All, all-map}
+use Rattle.model.proofs.Running.{joinedBy, run-earlier, outcome-earlier, run-few, run-numbers}
+use Rattle.operations.specs.Laid.{padded, flat, entriesOf, laid}
+use Rattle.operations.specs.declared.Ran.{Ran}
+use Rattle.record.specs.Words.{allRows, allRuns, runWords, stateWord, liveRows}
+use Rattle.record.specs.View.{numbersFrom}
+use Rattle.record.proofs.Rows.{shift-padded, lay-padded, numbers-padded}
+use Rattle.record.proofs.Back.{Eight, Fit, Known, eights-first, eights-rest, number-back, length-runs, length-flat, flat-append, entries-back}
+use Rattle.engine.specs.declared.queues.Counts.{Counts}
+use Rattle.engine.specs.Work.{Work, Fair, Dropped, Settled, Committed, Aborted, Continued, runRow, stateWordAfter, answered}
+use Rattle.engine.proofs.Rooms.{answered-room, state-word}
+use Rattle.engine.proofs.Settling.{first-word, front-runs}
+
+pub committed-both : (live runs undo room runs₁ undo₁ runs₂ undo₂ room₂ : List ℕ) (c c₁ c₂ : Counts) → Dropped runs undo c runs₁ undo₁ c₁ → Settled live runs₁ undo₁ room c₁ runs₂ undo₂ room₂ c₂ → Committed live runs undo room c runs₂ undo₂ room₂ c₂
+committed-both live runs undo room runs₁ undo₁ runs₂ undo₂ room₂ c c₁ c₂ one two gone u us ws sent room₀ w k =
+    two (gone ++ (requeued u ∷ [])) us ws sent room₀ (one live room gone u us ws sent room₀ w k) (k .1)
+
+-- all of a row shifted out
+emptied : (n : ℕ) (l : List ℕ) (m : ℕ) → length l ≡ m → m ≤ n → sets (padded n l) 0 (numbersFrom (padded n l) m m) ≡ padded n []
+emptied n l m e h =
+    ap (λ (x : List ℕ). sets (padded n x) 0 (numbersFrom (padded n x) m m)) (sym (append-nil l)) ∙ shift-padded n l [] m m e (ap length (append-nil l) ∙ e) h
+
+-- the entries of a row that holds them all
+all-entries : (undo : List ℕ) (us : List Undo) (n : ℕ) → undo ≡ padded 368 (flat us) → length us ≡ n → entriesOf undo 0 n ≡ us
+all-entries undo us n e en =
+    (λ i. entriesOf (e i) 0 (sym en i)) ∙ ap (λ (x : List Undo). entriesOf (padded 368 (flat x)) 0 (length us)) (sym (append-nil us)) ∙ entries-back 368 [] us [] 0 refl
+
+pub aborted : (runs undo runs′ undo′ : List ℕ) (cells cells′ : Cells) (c c′ : Counts) → Fair c → cells′ ≡ undone (entriesOf undo 0 (c .entries)) cells
+    → runs′ ≡ sets runs 0 (numbersFrom runs (16 * c .uncommitted) (16 * c .uncommitted)) → undo′ ≡ sets undo 0 (numbersFrom undo (2 * c .entries) (2 * c .entries))
+    → c′ ≡ record { first = c .first + 1; uncommitted = 0; waiting = c .uncommitted - 1 + c .waiting; entries = 0; answers = c .answers } → Aborted runs undo cells c runs′ undo′ cells′ c′
+unfolding allRuns
+aborted runs undo runs′ undo′ cells cells′ c c′ fair es er eu ec live room gone u us ws sent room₀ w k =
+    let fits : All Fit (u ∷ us) = all-map Known Fit (λ v h. h .0) (u ∷ us) k in
+    let rows : gone ++ liveRows (u ∷ us) ws ≡ (gone ++ (requeued u ∷ [])) ++ (map requeued us ++ ws) = sym (append-assoc gone (requeued u ∷ []) (map requeued us ++ ws)) in (
+      record {
+        at-live = w .at-live ∙ ap (λ (x : List Waiting). padded 1792 (allRows x)) rows;
+        at-runs = er ∙ ap (λ (x : List ℕ). sets x 0 (numbersFrom x (16 * c .uncommitted) (16 * c .uncommitted))) (w .at-runs)
+            ∙ emptied 256 (allRuns (u ∷ us)) (16 * c .uncommitted) (length-runs (u ∷ us) fits ∙ ap (λ (x : ℕ). 16 * x) (w .uncommitted)) (omega (arith, fair .depth));
+        at-undo = eu ∙ ap (λ (x : List ℕ). sets x 0 (numbersFrom x (2 * c .entries) (2 * c .entries))) (w .at-undo)
+            ∙ emptied 368 (flat (undoList (u ∷ us))) (2 * c .entries) (length-flat (undoList (u ∷ us)) ∙ ap (λ (x : ℕ). 2 * x) (w .entries)) (omega (arith, fair .entries));
+        at-room = w .at-room;
+        first = length-append gone (requeued u ∷ []) ∙ ap (λ (x : ℕ). x + 1) (w .first) ∙ sym (ap (λ (x : Counts). x .first) ec);
+        uncommitted = sym (ap (λ (x : Counts). x .uncommitted) ec);
+        waiting = length-append (map requeued us) ws ∙ omega (arith, length-map us requeued, w .uncommitted, w .waiting, ap (λ (x : Counts). x .waiting) ec);
+        entries = sym (ap (λ (x : Counts). x .entries) ec);
+        answers = w .answers ∙ sym (ap (λ (x : Counts). x .answers) ec);
+        eights = subst (All Eight) rows (w .eights);
+        enough = w .enough;
+      },
+      es ∙ ap (λ (x : List Undo). undone x cells) (all-entries undo (undoList (u ∷ us)) (c .entries) (w .at-undo) (w .entries)),
+    )
+
+-- One more fragment of the front
+
+few-operations : (f : Fragment) → length (f .row) ≡ 8 → length (operations f) ≤ 8
+unfolding operations
+few-operations f h = omega (arith, length-take (f .count) (f .row))
+
+pub entries-of : (f : Fragment) (cells : Cells) (r : Ran) → length (f .row) ≡ 8 → r ≡ laid (run f cells []) → r .entries ≤ 8
+unfolding laid
+entries-of f cells r h e = omega (arith, ap (λ (x : Ran). x .entries) e, run-few f cells, few-operations f h)
+
+again-words : (u : Uncommitted) (f : Fragment) (R : Steps.Ran) (n s e : ℕ) → n ≡ u .ran + 1 → s ≡ stateWord (stateAfter f (R .outcome)) → e ≡ length (R .undo) → runRow n s 0 e 0 0 (replicate 8 0) ≡ runWords (again u f R)
+unfolding runWords padded
+again-words u f R n s e en es ee = λ i. runRow (en i) (es i) 0 (ee i) 0 0 (replicate 8 0)
+
+first-is : (u : Uncommitted) → getD (runWords u) 0 0 ≡ u .ran
+unfolding runWords
+first-is u = refl
+
+module _ (live runs undo room runs′ undo′ room′ : List ℕ) (cells cells′ : Cells) (c c′ : Counts) (f : Fragment) (number ran before state entries : ℕ) (la : Bool) (r : Ran) (w : List ℕ)
+    (fair : Fair c) (some : 0 < c .uncommitted) (en : number ≡ getD live (28 * c .first) 0) (er : r ≡ laid (run f cells [])) (ec : cells′ ≡ run f cells (entriesOf undo 0 (c .entries)) .cells)
+    (eran : ran ≡ getD runs 0 0) (ebefore : before ≡ min ran 7) (ela : la ≡ last f) (est : state ≡ stateWordAfter la (r .place)) (een : entries ≡ pick (eqb (r .place) 0) (c .entries + r .entries) 0)
+    (eu : undo′ ≡ pick (eqb (r .place) 0) (sets undo (2 * c .entries) (numbersFrom (r .undo) 0 (2 * r .entries))) (sets undo 0 (numbersFrom undo (2 * c .entries) (2 * c .entries))))
+    (ew : w ≡ runRow (before + 1) state 0 entries 0 0 (replicate 8 0)) (eruns : runs′ ≡ sets runs 0 w) (eroom : room′ ≡ answered (c .answers) number 0 r room)
+    (ecounts : c′ ≡ record { first = c .first; uncommitted = c .uncommitted; waiting = c .waiting; entries = entries; answers = c .answers + 1 }) where
+  pub continued : Continued live runs undo room cells c f runs′ undo′ room′ cells′ c′
+  unfolding laid
+  continued gone u ws sent room₀ k kn few-ran eight few = (
+    record {
+      at-live = k .at-live;
+      at-runs = front-runs u [] runs (kn, tt) (k .at-runs) v w runs′ (omega arith) run-is eruns;
+      at-undo = undo-is;
+      at-room = room-is;
+      first = k .first ∙ sym (ap (λ (x : Counts). x .first) ecounts);
+      uncommitted = k .uncommitted ∙ sym (ap (λ (x : Counts). x .uncommitted) ecounts);
+      waiting = k .waiting ∙ sym (ap (λ (x : Counts). x .waiting) ecounts);
+      entries = ap length (append-nil (run f cells (u .undo) .undo)) ∙ sym entries-is ∙ sym (ap (λ (x : Counts). x .entries) ecounts);
+      answers = length-append sent (answer (u .number) 0 (run f cells (u .undo) .outcome) ∷ []) ∙ ap (λ (x : ℕ). x + 1) (k .answers) ∙ sym (ap (λ (x : Counts). x .answers) ecounts);
+      eights = k .eights;
+      enough = k .enough;
+    },
+    cells-is,
+  )
+    where
+      v : Uncommitted
+      v = again u f (run f cells (u .undo))
+
+      whole : length (u .undo ++ []) ≡ length (u .undo)
+      whole = ap length (append-nil (u .undo))
+
+      own : entriesOf undo 0 (c .entries) ≡ u .undo
+      own = all-entries undo (u .undo ++ []) (c .entries) (k .at-undo) (k .entries) ∙ append-nil (u .undo)
+
+      cells-is : cells′ ≡ run f cells (u .undo) .cells
+      cells-is = ec ∙ ap (λ (x : List Undo). run f cells x .cells) own
+
+      place-is : r .place ≡ run f cells [] .outcome .place
+      place-is = ap (λ (x : Ran). x .place) er
+
+      tells : run f cells (u .undo) .outcome ≡ run f cells [] .outcome
+      tells = outcome-earlier f cells (u .undo)
+
+      -- its entries then
+      undo-by : (b : Bool) → eqb (run f cells [] .outcome .place) 0 ≡ b → run f cells (u .undo) .undo ≡ joinedBy b (u .undo) (run f cells []) .undo
+      undo-by b e = ap (λ (x : Steps.Ran). x .undo) (run-earlier f cells (u .undo)) ∙ ap (λ (x : Bool). joinedBy x (u .undo) (run f cells []) .undo) e
+
+      own-few : length (run f cells [] .undo) ≤ 8
+      own-few = omega (arith, run-few f cells, few-operations f eight)
+
+      own-words : numbersFrom (r .undo) 0 (2 * r .entries) ≡ flat (run f cells [] .undo)
+      own-words = (λ i. numbersFrom (er i .undo) 0 (2 * er i .entries)) ∙ numbers-padded 16 (flat (run f cells [] .undo)) (2 * length (run f cells [] .undo)) (length-flat (run f cells [] .undo))
+
+      entries-is : entries ≡ length (run f cells (u .undo) .undo)
+      entries-is = een ∙ ap (λ (x : ℕ). pick (eqb x 0) (c .entries + r .entries) 0) place-is ∙ go (eqb (run f cells [] .outcome .place) 0) refl
+        where
+          go : (b : Bool) → eqb (run f cells [] .outcome .place) 0 ≡ b → pick b (c .entries + r .entries) 0 ≡ length (run f cells (u .undo) .undo)
+          go true e = (λ i. (sym (k .entries) ∙ whole) i + er i .entries) ∙ sym (length-append (u .undo) (run f cells [] .undo)) ∙ sym (ap length (undo-by true e))
+          go false e = sym (ap length (undo-by false e))
+
+      undo-is : undo′ ≡ padded 368 (flat (run f cells (u .undo) .undo ++ []))
+      undo-is = eu ∙ ap (λ (x : ℕ). pick (eqb x 0) (sets undo (2 * c .entries) (numbersFrom (r .undo) 0 (2 * r .entries))) (sets undo 0 (numbersFrom undo (2 * c .entries) (2 * c .entries)))) place-is
+          ∙ go (eqb (run f cells [] .outcome .place) 0) refl ∙ ap (λ (x : List Undo). padded 368 (flat x)) (sym (append-nil (run f cells (u .undo) .undo)))
+        where
+          size : length (flat (u .undo ++ [])) ≡ 2 * c .entries
+          size = length-flat (u .undo ++ []) ∙ ap (λ (x : ℕ). 2 * x) (k .entries)
+
+          go : (b : Bool) → eqb (run f cells [] .outcome .place) 0 ≡ b
+              → pick b (sets undo (2 * c .entries) (numbersFrom (r .undo) 0 (2 * r .entries))) (sets undo 0 (numbersFrom undo (2 * c .entries) (2 * c .entries))) ≡ padded 368 (flat (run f cells (u .undo) .undo))
+          go true e =
+              (λ i. sets (k .at-undo i) (2 * c .entries) (own-words i))
+              ∙ lay-padded 368 (flat (u .undo ++ [])) (flat (run f cells [] .undo)) (2 * c .entries) size (omega (arith, length-flat (run f cells [] .undo), own-few, whole, k .entries, few, few-ran))
+              ∙ ap (padded 368) (ap (λ (x : List Undo). flat x ++ flat (run f cells [] .undo)) (append-nil (u .undo)) ∙ sym (flat-append (u .undo) (run f cells [] .undo)) ∙ ap flat (sym (undo-by true e)))
+          go false e =
+              ap (λ (x : List ℕ). sets x 0 (numbersFrom x (2 * c .entries) (2 * c .entries))) (k .at-undo) ∙ emptied 368 (flat (u .undo ++ [])) (2 * c .entries) size (omega (arith, fair .entries))
+              ∙ ap (λ (x : List Undo). padded 368 (flat x)) (sym (undo-by false e))
+
+      run-is : w ≡ runWords v
+      run-is = ew ∙ again-words u f (run f cells (u .undo)) (before + 1) state entries ran-is state-is entries-is
+        where
+          ran-is : before + 1 ≡ u .ran + 1
+          ran-is =
+              let h : ran ≡ u .ran = eran ∙ first-word u [] runs (kn, tt) (k .at-runs) 0 (omega arith) ∙ first-is u in
+              omega (arith, ebefore, h, few-ran)
+
+          state-is : state ≡ stateWord (stateAfter f (run f cells (u .undo) .outcome))
+          state-is = est ∙ ap (stateWordAfter la) place-is ∙ state-word f (run f cells [] .outcome) la ela ∙ ap (λ (o : Outcome). stateWord (stateAfter f o)) (sym tells)
+
+      number-is : number ≡ u .number
+      number-is =
+          en ∙ ap (λ (l : List ℕ). getD l (28 * c .first) 0) (k .at-live)
+          ∙ number-back 1792 gone (requeued u) (liveRows [] ws) (28 * c .first) (eights-first gone (liveRows (u ∷ []) ws) (k .eights)) (eights-rest gone (liveRows (u ∷ []) ws) (k .eights) .0) (ap (λ (x : ℕ). 28 * x) (k .first))
+
+      room-is : room′ ≡ filled (sent ++ (answer (u .number) 0 (run f cells (u .undo) .outcome) ∷ [])) room₀
+      room-is = eroom ∙ ap (λ (n : ℕ). answered (c .answers) n 0 r room) number-is
+          ∙ answered-room sent (u .number) 0 (run f cells []) r room room₀ (c .answers) er (omega (arith, run-numbers f cells, few-operations f eight)) (k .at-room) (k .answers) (omega (arith, k .enough, fair .answers, some))
+          ∙ ap (λ (o : Outcome). filled (sent ++ (answer (u .number) 0 o ∷ [])) room₀) (sym tells)
+
+-- a run's own entries fit their row of sixteen
+pub entries-by-row : (R : Steps.Ran) (r : Ran) → r ≡ laid R → length (r .undo) ≡ 16 → r .entries ≤ 8
+unfolding laid padded
+entries-by-row R r e h =
+    let zeros : List ℕ = replicate (16 - length (flat (R .undo))) 0 in
+    omega (arith, ap (λ (x : Ran). x .entries) e, ap (λ (x : Ran). length (x .undo)) e, length-append (flat (R .undo)) zeros, length-flat (R .undo))

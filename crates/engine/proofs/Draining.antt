@@ -1,0 +1,228 @@
+-- The drain's loop, in plain terms: what is left to drain from here, with the answers so far, is the whole.
+use Prim.Native.Nat.{ℕ, zero, suc, _+_, _*_, _-_, min, _≤_, _<_}
+use native.Mathlib.Omega.{arith}
+use borrow.Author.Tests.{ne-eqb, eq-eqb, eqb-true, ltb-true, leb-true, leb-false, lt-ltb, le-ltb, lt-leb, le-leb}
+use mathlib.Core.Path.{_≡_, refl, sym, ap, _∙_, subst, subst₂}
+use mathlib.Core.Bool.{Bool, true, false, not, _&&_, _||_, true≢false}
+use mathlib.Core.Logic.{_⊎_, inl, inr}
+use mathlib.Core.List.{List, [], _∷_, _++_, append-assoc, append-nil, map}
+use lib.Dec.{eqb, ltb, leb}
+use lib.ListN.{length, getD, take, length-append, length-take}
+use Rattle.model.specs.Limits.{depth}
+use Rattle.model.specs.Operations.{Cells, pick, operations}
+use Rattle.model.specs.Transactions.{State, Running, Finished, Failed, NoState, finished, Uncommitted, Waiting, Answer, undoList}
+use Rattle.model.specs.Steps.{run, lastFinished, mayTake, Place, placed, Queues, sending}
+use Rattle.model.specs.Steps as Steps
+use Rattle.model.specs.declared.Fragment.{Fragment}
+use Rattle.model.proofs.Chain.{All, all-map}
+use Rattle.model.proofs.Sound.{Sound}
+use Rattle.model.proofs.Running.{run-few}
+use Rattle.model.proofs.Keeping.{placed-sound}
+use Rattle.operations.specs.Laid.{padded, laid}
+use Rattle.operations.specs.declared.Ran.{Ran}
+use Rattle.record.specs.Words.{allRuns, runWords, stateWord}
+use Rattle.record.specs.View.{fragmentAt}
+use Rattle.record.proofs.Back.{Fit, Known, known-of, run-read}
+use Rattle.engine.specs.declared.queues.Counts.{Counts}
+use Rattle.engine.specs.Work.{Small, Work, Left, Turned, Drained, mayTakeRow, joinedCounts, settledCounts, withAnswers}
+
+-- Counts
+
+pub entries-few : (l : List ℕ) (b : ℕ) (f : Fragment) (cells : Cells) (r : Ran) → f ≡ fragmentAt l b → r ≡ laid (run f cells []) → r .entries ≤ 8
+unfolding laid fragmentAt operations
+entries-few l b f cells r ef er =
+    let g : Fragment = fragmentAt l b in
+    let e : r .entries ≡ length (run (fragmentAt l b) cells [] .undo) = ap (λ (x : Ran). x .entries) (er ∙ ap (λ (x : Fragment). laid (run x cells [])) ef) in
+    omega (arith, run-few (fragmentAt l b) cells, length-take (g .count) (g .row))
+
+pub small-turn : (c c′ : Counts) (r : Ran) (a′ : ℕ) (ans joins : Bool) → Small c → 0 < c .waiting → c .uncommitted < 16 → r .entries ≤ 8 → a′ ≡ pick ans (c .answers + 1) (c .answers)
+    → c′ ≡ pick joins (joinedCounts (withAnswers a′ c) r) (settledCounts (withAnswers a′ c)) → Small c′ × (c′ .waiting + 1 ≡ c .waiting)
+small-turn c c′ r a′ ans joins s w u e ea ec = go joins ec (less ans ea)
+  where
+    less : (b : Bool) → a′ ≡ pick b (c .answers + 1) (c .answers) → a′ ≤ c .answers + 1
+    less true h = omega arith
+    less false h = omega arith
+
+    go : (b : Bool) → c′ ≡ pick b (joinedCounts (withAnswers a′ c) r) (settledCounts (withAnswers a′ c)) → a′ ≤ c .answers + 1 → Small c′ × (c′ .waiting + 1 ≡ c .waiting)
+    go true h k =
+        let h1 : c′ .first ≡ c .first = ap (λ (x : Counts). x .first) h in
+        let h2 : c′ .uncommitted ≡ c .uncommitted + 1 = ap (λ (x : Counts). x .uncommitted) h in
+        let h3 : c′ .waiting ≡ c .waiting - 1 = ap (λ (x : Counts). x .waiting) h in
+        let h4 : c′ .entries ≡ c .entries + r .entries = ap (λ (x : Counts). x .entries) h in
+        let h5 : c′ .answers ≡ a′ = ap (λ (x : Counts). x .answers) h in
+        (record { live = omega (arith, s .live); answers = omega (arith, s .answers); depth = omega arith; entries = omega (arith, s .entries) }, omega arith)
+    go false h k =
+        let h1 : c′ .first ≡ c .first + 1 = ap (λ (x : Counts). x .first) h in
+        let h2 : c′ .uncommitted ≡ c .uncommitted = ap (λ (x : Counts). x .uncommitted) h in
+        let h3 : c′ .waiting ≡ c .waiting - 1 = ap (λ (x : Counts). x .waiting) h in
+        let h4 : c′ .entries ≡ c .entries = ap (λ (x : Counts). x .entries) h in
+        let h5 : c′ .answers ≡ a′ = ap (λ (x : Counts). x .answers) h in
+        (record { live = omega (arith, s .live); answers = omega (arith, s .answers); depth = omega arith; entries = omega (arith, s .entries) }, omega arith)
+
+-- May the drain go on
+
+record Ends (us : List Uncommitted) : Type 0 where
+  ahead : List Uncommitted
+  tail : Uncommitted
+  split : us ≡ ahead ++ (tail ∷ [])
+  last : lastFinished us ≡ finished (tail .state)
+
+ends : (u : Uncommitted) (us : List Uncommitted) → Ends (u ∷ us)
+ends u [] = record { ahead = []; tail = u; split = refl; last = refl }
+ends u (x ∷ us) = let e = ends x us in record { ahead = u ∷ e .ahead; tail = e .tail; split = ap {B = List Uncommitted} (λ (l : List Uncommitted). u ∷ l) (e .split); last = e .last }
+
+state-word : (s : State) → pick (eqb (stateWord s) 1) true (eqb (stateWord s) 2) ≡ finished s
+state-word Running = refl
+state-word Finished = refl
+state-word Failed = refl
+state-word NoState = refl
+
+all-first : (a b : List Uncommitted) → All Fit (a ++ b) → All Fit a
+all-first [] b h = tt
+all-first (x ∷ a) b h = (h .0, all-first a b (h .1))
+
+all-rest : (a b : List Uncommitted) → All Fit (a ++ b) → All Fit b
+all-rest [] b h = h
+all-rest (x ∷ a) b h = all-rest a b (h .1)
+
+run-state : (v : Uncommitted) → getD (runWords v) 1 0 ≡ stateWord (v .state)
+unfolding runWords
+run-state v = refl
+
+pub may-take-back : (us : List Uncommitted) (runs : List ℕ) (n : ℕ) → All Known us → runs ≡ padded 256 (allRuns us) → length us ≡ n → mayTakeRow runs n ≡ mayTake us
+may-take-back [] runs n k e en = ap (mayTakeRow runs) (sym en)
+may-take-back (u ∷ us) runs n k e en = ap (mayTakeRow runs) (sym en) ∙ some ∙ deep (leb 16 (suc (length us))) refl
+  where
+    m : ℕ
+    m = suc (length us)
+
+    word : ℕ
+    word = getD runs (16 * (suc (length us) - 1) + 1) 0
+
+    rest : Bool → Bool
+    rest b = pick b false (pick (eqb (getD runs (16 * (suc (length us) - 1) + 1) 0) 1) true (eqb (getD runs (16 * (suc (length us) - 1) + 1) 0) 2))
+
+    some : mayTakeRow runs (suc (length us)) ≡ rest (leb 16 (suc (length us)))
+    some = ap (λ (b : Bool). pick b true (rest (leb 16 (suc (length us))))) (ne-eqb (suc (length us)) 0 (λ z. omega arith))
+
+    x : Ends (u ∷ us)
+    x = ends u us
+
+    fit : All Fit (x .ahead ++ (x .tail ∷ []))
+    fit = subst (All Fit) (x .split) (all-map Known Fit (λ v h. h .0) (u ∷ us) k)
+
+    far : 16 * length (x .ahead) ≡ 16 * (suc (length us) - 1)
+    far = ap (λ (y : ℕ). 16 * y) (omega (arith, ap length (x .split), length-append (x .ahead) (x .tail ∷ [])))
+
+    word-is : getD runs (16 * (suc (length us) - 1) + 1) 0 ≡ stateWord (x .tail .state)
+    word-is =
+        ap (λ (l : List ℕ). getD l (16 * (suc (length us) - 1) + 1) 0) (e ∙ ap (λ (l : List Uncommitted). padded 256 (allRuns l)) (x .split))
+        ∙ run-read 256 (x .ahead) (x .tail) [] (16 * (suc (length us) - 1)) 1 (all-first (x .ahead) (x .tail ∷ []) fit) (all-rest (x .ahead) (x .tail ∷ []) fit .0) far (omega arith)
+        ∙ run-state (x .tail)
+
+    deep : (b : Bool) → leb 16 (suc (length us)) ≡ b → rest b ≡ mayTake (u ∷ us)
+    deep true h = sym (ap (λ (b : Bool). b && lastFinished (u ∷ us)) (le-ltb (suc (length us)) depth (leb-true 16 (suc (length us)) h)))
+    deep false h =
+        ap (λ (w : ℕ). pick (eqb w 1) true (eqb w 2)) word-is ∙ state-word (x .tail .state) ∙ sym (x .last)
+        ∙ sym (ap (λ (b : Bool). b && lastFinished (u ∷ us)) (lt-ltb (suc (length us)) depth (leb-false 16 (suc (length us)) h)))
+
+-- The loop
+
+pub record Mid (live runs undo room : List ℕ) (cells : Cells) (c : Counts) (sent : List Answer) (room₀ : List ℕ) (ct top : ℕ) (whole : Queues) : Type 0 where
+  pub gone : List Waiting
+  pub us : List Uncommitted
+  pub ws : List Waiting
+  pub more : List Answer
+  pub work : Work live runs undo room c gone us ws more room₀
+  pub sound : Sound ct top us ws
+  pub rest : sending more (Steps.drain cells us ws) ≡ sending sent whole
+
+-- what the loop keeps: wherever it began with lists, it is in the midst of draining them
+abbrev pub Midst : List ℕ → List ℕ → List ℕ → List ℕ → Cells → Counts → List ℕ → List ℕ → List ℕ → Cells → Counts → Type 0
+Midst live runs undo room cells c runs′ undo′ room′ cells′ c′ =
+    (gone : List Waiting) (us : List Uncommitted) (ws : List Waiting) (sent : List Answer) (room₀ : List ℕ) → Work live runs undo room c gone us ws sent room₀
+    → (ct top : ℕ) → Sound ct top us ws → Mid live runs′ undo′ room′ cells′ c′ sent room₀ ct top (Steps.drain cells us ws)
+
+pub midst-start : (live runs undo room : List ℕ) (cells : Cells) (c : Counts) → Midst live runs undo room cells c runs undo room cells c
+midst-start live runs undo room cells c gone us ws sent room₀ w ct top s = record { gone = gone; us = us; ws = ws; more = sent; work = w; sound = s; rest = refl }
+
+drain-takes : (cs : Cells) (us : List Uncommitted) (w : Waiting) (ws : List Waiting) → mayTake us ≡ true
+    → Steps.drain cs us (w ∷ ws) ≡ sending (placed us w (run (w .fragment) cs []) .answers) (Steps.drain (run (w .fragment) cs [] .cells) (placed us w (run (w .fragment) cs []) .uncommitted) ws)
+unfolding Steps.drain
+drain-takes cs us w ws e =
+    ap {B = Queues} (λ (b : Bool). elim b [
+      | false ↦ record { cells = cs; uncommitted = us; waiting = w ∷ ws; answers = [] }
+      | true ↦ sending (placed us w (run (w .fragment) cs []) .answers) (Steps.drain (run (w .fragment) cs [] .cells) (placed us w (run (w .fragment) cs []) .uncommitted) ws)
+    ]) e
+
+drain-stays : (cs : Cells) (us : List Uncommitted) (ws : List Waiting) → (ws ≡ []) ⊎ (mayTake us ≡ false) → Steps.drain cs us ws ≡ record { cells = cs; uncommitted = us; waiting = ws; answers = [] }
+unfolding Steps.drain
+drain-stays cs us [] h = refl
+drain-stays cs us (w ∷ ws) (inl e) = absurd (mathlib.Core.List.nil≢cons (sym e))
+drain-stays cs us (w ∷ ws) (inr e) =
+    ap {B = Queues} (λ (b : Bool). elim b [
+      | false ↦ record { cells = cs; uncommitted = us; waiting = w ∷ ws; answers = [] }
+      | true ↦ sending (placed us w (run (w .fragment) cs []) .answers) (Steps.drain (run (w .fragment) cs [] .cells) (placed us w (run (w .fragment) cs []) .uncommitted) ws)
+    ]) e
+
+sending-more : (a b : List Answer) (q : Queues) → sending (a ++ b) q ≡ sending a (sending b q)
+sending-more a b q = λ i. record { cells = q .cells; uncommitted = q .uncommitted; waiting = q .waiting; answers = append-assoc a b (q .answers) i }
+
+module _ (live runs₀ undo₀ room₀ : List ℕ) (cells₀ : Cells) (c₀ : Counts) (runs undo room : List ℕ) (cells : Cells) (c : Counts) (mid : Midst live runs₀ undo₀ room₀ cells₀ c₀ runs undo room cells c) where
+  pub midst-turn : 0 < c .waiting → mayTakeRow runs (c .uncommitted) ≡ true → (runs′ undo′ room′ : List ℕ) (cells′ : Cells) (c′ : Counts) → Turned live runs undo room cells c runs′ undo′ room′ cells′ c′
+      → Midst live runs₀ undo₀ room₀ cells₀ c₀ runs′ undo′ room′ cells′ c′
+  midst-turn h take runs′ undo′ room′ cells′ c′ turned gone us ws sent r₀ w ct top s =
+      let m = mid gone us ws sent r₀ w ct top s in
+      go (m .ws) m refl
+    where
+      go : (l : List Waiting) (m : Mid live runs undo room cells c sent r₀ ct top (Steps.drain cells₀ us ws)) → m .ws ≡ l → Mid live runs′ undo′ room′ cells′ c′ sent r₀ ct top (Steps.drain cells₀ us ws)
+      go [] m e = absurd (omega (arith, m .work .waiting, ap length e))
+      go (x ∷ l) m e =
+          let wk : Work live runs undo room c (m .gone) (m .us) (x ∷ l) (m .more) r₀ = subst (λ (y : List Waiting). Work live runs undo room c (m .gone) (m .us) y (m .more) r₀) e (m .work) in
+          let sd : Sound ct top (m .us) (x ∷ l) = subst (λ (y : List Waiting). Sound ct top (m .us) y) e (m .sound) in
+          let tk : mayTake (m .us) ≡ true = sym (may-take-back (m .us) runs (c .uncommitted) (known-of ct (m .us) (m .sound .each)) (m .work .at-runs) (m .work .uncommitted)) ∙ take in
+          let t = turned (m .gone) (m .us) x l (m .more) r₀ wk ct top sd tk in
+          record {
+            gone = t .gone;
+            us = placed (m .us) x (run (x .fragment) cells []) .uncommitted;
+            ws = l;
+            more = m .more ++ placed (m .us) x (run (x .fragment) cells []) .answers;
+            work = t .work;
+            sound = placed-sound ct top (m .us) x l cells tk sd .0;
+            rest = ap (λ (y : Cells). sending (m .more ++ placed (m .us) x (run (x .fragment) cells []) .answers) (Steps.drain y (placed (m .us) x (run (x .fragment) cells []) .uncommitted) l)) (t .stands)
+                ∙ sending-more (m .more) (placed (m .us) x (run (x .fragment) cells []) .answers) (Steps.drain (run (x .fragment) cells [] .cells) (placed (m .us) x (run (x .fragment) cells []) .uncommitted) l)
+                ∙ ap (sending (m .more)) (sym (drain-takes cells (m .us) x l tk) ∙ ap (Steps.drain cells (m .us)) (sym e)) ∙ m .rest;
+          }
+
+  pub midst-end : (c .waiting ≡ 0) ⊎ (mayTakeRow runs (c .uncommitted) ≡ false) → Drained live runs₀ undo₀ room₀ cells₀ c₀ runs undo room cells c
+  midst-end stop gone us ws sent r₀ w ct top s =
+      let m = mid gone us ws sent r₀ w ct top s in
+      let stays : Steps.drain cells (m .us) (m .ws) ≡ record { cells = cells; uncommitted = m .us; waiting = m .ws; answers = [] } = drain-stays cells (m .us) (m .ws) (why m stop) in
+      let e : record { cells = cells; uncommitted = m .us; waiting = m .ws; answers = m .more ++ [] } ≡ sending sent (Steps.drain cells₀ us ws) = ap (sending (m .more)) (sym stays) ∙ m .rest in
+      record {
+        gone = m .gone;
+        work = finish (m .gone) (m .us) (m .ws) (m .more) (sent ++ Steps.drain cells₀ us ws .answers) _ _ (ap (λ (q : Queues). q .uncommitted) e) (ap (λ (q : Queues). q .waiting) e) (sym (append-nil (m .more)) ∙ ap (λ (q : Queues). q .answers) e) (m .work);
+        stands = ap (λ (q : Queues). q .cells) e;
+      }
+    where
+      finish : (g : List Waiting) (us₁ : List Uncommitted) (ws₁ : List Waiting) (as₁ as₂ : List Answer) (us₂ : List Uncommitted) (ws₂ : List Waiting) → us₁ ≡ us₂ → ws₁ ≡ ws₂ → as₁ ≡ as₂
+          → Work live runs undo room c g us₁ ws₁ as₁ r₀ → Work live runs undo room c g us₂ ws₂ as₂ r₀
+      finish g us₁ ws₁ as₁ as₂ us₂ ws₂ eu ew ea k =
+          subst (λ (x : List Answer). Work live runs undo room c g us₂ ws₂ x r₀) ea (subst₂ (λ (x : List Uncommitted) (y : List Waiting). Work live runs undo room c g x y as₁ r₀) eu ew k)
+
+      why : (m : Mid live runs undo room cells c sent r₀ ct top (Steps.drain cells₀ us ws)) → (c .waiting ≡ 0) ⊎ (mayTakeRow runs (c .uncommitted) ≡ false) → (m .ws ≡ []) ⊎ (mayTake (m .us) ≡ false)
+      why m (inl z) = inl (none (m .ws) (m .work .waiting ∙ z))
+        where
+          none : (l : List Waiting) → length l ≡ 0 → l ≡ []
+          none [] h = refl
+          none (x ∷ l) h = absurd (omega arith)
+      why m (inr z) = inr (sym (may-take-back (m .us) runs (c .uncommitted) (known-of ct (m .us) (m .sound .each)) (m .work .at-runs) (m .work .uncommitted)) ∙ z)
+
+-- where the drain may go on, fewer than 16 are uncommitted
+pub room-under : (runs : List ℕ) (n : ℕ) → mayTakeRow runs n ≡ true → n < 16
+room-under runs n h = go (eqb n 0) refl (leb 16 n) refl h
+  where
+    go : (a : Bool) → eqb n 0 ≡ a → (b : Bool) → leb 16 n ≡ b → pick a true (pick b false (pick (eqb (getD runs (16 * (n - 1) + 1) 0) 1) true (eqb (getD runs (16 * (n - 1) + 1) 0) 2))) ≡ true → n < 16
+    go true e b f h = let z : n ≡ 0 = eqb-true n 0 e in omega arith
+    go false e true f h = absurd (true≢false (sym h))
+    go false e false f h = leb-false 16 n f

@@ -1,0 +1,17 @@
+use borrow.Author.Tests.{eq-eqb, ne-eqb}
+use borrow.Author.Needs.{needs}
+use Rattle.engine.proofs.queues.is_joining.Statement.{statement}
+use Rattle.engine.proofs.queues.is_joining.Tie as tie
+use Rattle.engine.proofs.queues.is_joining.Reads as reads
+use Rattle.engine.proofs.queues.is_joining.Lts as lts
+
+-- src/lib.rt:174:1
+returns : tie.Need-returns
+returns c = rw (eq-eqb (c .before .args .uncommitted) 0 (c .if1 .taken))
+
+-- src/lib.rt:174:1
+returns-2 : tie.Need-returns-2
+returns-2 c = rw (ne-eqb (c .before .args .uncommitted) 0 (c .if1 .left))
+
+pub is-joining-spec : {M : Type 1} → statement M
+is-joining-spec = tie.close (tie.spec returns returns-2)

@@ -1,0 +1,63 @@
+use Prim.Native.Nat.{ℕ}
+use mathlib.Core.Path.{_≡_, ap, _∙_}
+use mathlib.Core.List.{List}
+use lib.ListN.{length, replicate}
+use lib.Seq.{sets}
+use Rattle.engine.specs.Work.{runRow}
+use Rattle.engine.proofs.Reading.{laid-whole}
+use borrow.Author.Needs.{needs}
+use Rattle.engine.proofs.queues.mark_sent.Statement.{statement}
+use Rattle.engine.proofs.queues.mark_sent.Tie as tie
+use Rattle.engine.proofs.queues.mark_sent.Reads as reads
+use Rattle.engine.proofs.queues.mark_sent.Lts as lts
+use Rattle.operations.proofs.number_at.Reads as number-at-reads
+use Rattle.engine.proofs.queues.run_row.Reads as run-row-reads
+use Rattle.record.proofs.lay.Reads as lay-reads
+
+-- src/lib.rt:424:9
+number-at-requires : tie.Need-number-at-requires
+number-at-requires c κs = search needs
+
+-- src/lib.rt:425:9
+number-at-requires-2 : tie.Need-number-at-requires-2
+number-at-requires-2 c κs = search needs
+
+-- src/lib.rt:426:9
+number-at-requires-3 : tie.Need-number-at-requires-3
+number-at-requires-3 c κs = search needs
+
+-- src/lib.rt:427:13
+run-row-requires : tie.Need-run-row-requires
+run-row-requires c κs = search needs
+
+-- src/lib.rt:428:26
+slice-aggregate-lay : tie.Need-slice-aggregate-lay
+slice-aggregate-lay c = search needs
+
+-- src/lib.rt:428:5
+lay-requires : tie.Need-lay-requires
+lay-requires c κs = search needs
+
+-- src/lib.rt:421:1
+same-length : tie.Need-same-length
+same-length c = search needs
+
+-- src/lib.rt:421:1
+returns : tie.Need-returns
+returns c = let a = c .before .before .before .before .before .before .before .before .before .before .before .before .before .args in
+    let w = c .before .before .before .before .before .run-row .result in
+    let e : length w ≡ 16 = search (c .before .before .before .before .before .run-row, needs) in
+    c .before .before .lay .ensures ∙ ap (sets (a .runs .now) 0) (laid-whole w 16 e ∙ c .before .before .before .before .before .run-row .ensures ∙ (λ i. runRow (c .before .before .before .before .before .before .before .before .before .before .number-at .ensures i) (c .before .before .before .before .before .before .before .before .number-at2 .ensures i) 0 (c .before .before .before .before .before .before .number-at3 .ensures i) 0 0 (replicate 8 0)))
+
+pub mark-sent-spec : {M : Type 1} → statement M
+mark-sent-spec =
+    tie.close
+    (tie.spec
+    number-at-requires
+    number-at-requires-2
+    number-at-requires-3
+    run-row-requires
+    slice-aggregate-lay
+    lay-requires
+    same-length
+    returns)

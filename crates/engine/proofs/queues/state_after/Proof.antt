@@ -1,0 +1,21 @@
+use borrow.Author.Tests.{eq-eqb, ne-eqb}
+use borrow.Author.Needs.{needs}
+use Rattle.engine.proofs.queues.state_after.Statement.{statement}
+use Rattle.engine.proofs.queues.state_after.Tie as tie
+use Rattle.engine.proofs.queues.state_after.Reads as reads
+use Rattle.engine.proofs.queues.state_after.Lts as lts
+
+-- src/lib.rt:75:1
+returns : tie.Need-returns
+returns c = rw (eq-eqb (c .before .before .args .place) 0 (c .before .if1 .taken), c .if2 .taken)
+
+-- src/lib.rt:75:1
+returns-2 : tie.Need-returns-2
+returns-2 c = rw (eq-eqb (c .before .before .args .place) 0 (c .before .if1 .taken), c .if2 .left)
+
+-- src/lib.rt:75:1
+returns-3 : tie.Need-returns-3
+returns-3 c = rw (ne-eqb (c .before .args .place) 0 (c .if1 .left))
+
+pub state-after-spec : {M : Type 1} → statement M
+state-after-spec = tie.close (tie.spec returns returns-2 returns-3)
