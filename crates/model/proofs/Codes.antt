@@ -5,7 +5,10 @@ use borrow.Author.Tests.{leb-true}
 use mathlib.Core.Path.{_≡_, refl, sym, _∙_}
 use mathlib.Core.Bool.{Bool, true, false, true≢false}
 use lib.Dec.{leb, ltb, eqb}
-use Rattle.model.specs.Operations.{known, uses, writes, mayFail, meaning, pick}
+use mathlib.Core.List.{[], _∷_}
+use Rattle.model.specs.Operations.{Cells, Outcome, known, uses, writes, mayFail, meaning, operate, put, pick, tells}
+use Rattle.model.specs.Steps.{Ran, runFrom, undone, noted}
+use Rattle.model.specs.declared.Op.{Op}
 use Rattle.model.specs.declared.Did.{Did}
 use Rattle.model.specs.declared.Did.the-variants.{Number, Fails}
 use Rattle.model.proofs.Tests.{and-right}
@@ -85,3 +88,15 @@ ignores-amount code k = each-code (λ (c : ℕ). (x v w : ℕ) → uses c ≡ fa
     (λ x v w h. absurd (true≢false h))
     (λ x v w h. absurd (true≢false h))
     code k
+
+-- a fragment of one operation answers what the case of its answer tells
+pub one-tells : (o : Op) (cs : Cells) → runFrom 1 (o ∷ []) cs [] [] .outcome ≡ tells 1 (operate o cs)
+unfolding runFrom
+one-tells o cs = go (operate o cs)
+  where
+    go : (d : Did) → elim d as (λ _. Ran) [
+      | Number y ↦ runFrom 2 [] (put o y cs) (y ∷ []) (noted o cs [])
+      | Fails ↦ record { cells = undone [] cs; outcome = record { place = 1; numbers = [] }; undo = [] }
+    ] .outcome ≡ tells 1 d
+    go (Number y) = refl
+    go Fails = refl

@@ -12,3 +12,4 @@ pub mod Keeping
 pub mod Kept
 pub mod Running
 pub mod Codes
+pub mod Unique

@@ -91,6 +91,11 @@ pub record Outcome : Type 0 where
   pub place : ℕ
   pub numbers : List ℕ
 
+-- what each case of an operation's answer tells at place p: "gives one number", or "no numbers but the place 1 to 8"
+abbrev pub tells : ℕ → Did → Outcome
+tells p (Number y) = record { place = 0; numbers = y ∷ [] }
+tells p Fails = record { place = p; numbers = [] }
+
 -- A fragment by itself: to its end, with the cells and "one number" for each operation, or to a failing one, with its "place 1 to 8".
 pub data Trial : Type 0 where
   Done : Cells → List ℕ → Trial

@@ -1,3 +1,4 @@
 pub mod Turns
 pub mod Walks
 pub mod Checks
+pub mod Unique

@@ -1,2 +1,3 @@
 pub mod Firsts
 pub mod Tables
+pub mod Unique

@@ -1,3 +1,4 @@
 pub mod Turns
 pub mod Words
 pub mod Grouped
+pub mod Unique
