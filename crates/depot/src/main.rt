@@ -1,0 +1,413 @@
+// The depot cases that no trace reaches: calls on records that no run leaves. Each prints its number as `e case number`, with the answers as
+// `a` lines. A case is the record of `base` with one word changed, or two.
+ghost use Prim.Native.Nat.{_≤_};
+use libc::STDOUT_FILENO;
+use model::Event;
+use model::Fragment;
+use model::Op;
+use record::Record;
+
+// Unsound records, in this order: a cell count above 4,096; 17 uncommitted; 65 live; counts that overflow; nine fragments run; 185 undo entries; a live number 0; numbers not rising; a number above the largest; a stored fragment that 4 refuses: a flag; a code; an amount of a read; a used unused place; no operation; a single with a coordinator; a multi with none; one that 5 refuses; no fragment run; one behind the front with two runs; a front that is a single; a front that holds its answer; a single whose answer is not held; an unfinished one that is not the last; nine held numbers; a held place 9; an undo cell outside; 17 entries of two fragments; nine entries of one; a state that stands for nothing; a reply that stands for nothing.
+const UNSOUND_PLACE: [u32; 30] = [
+    0,
+    2,
+    3,
+    2,
+    1796,
+    1799,
+    4,
+    32,
+    144,
+    117,
+    120,
+    122,
+    129,
+    119,
+    34,
+    62,
+    149,
+    1828,
+    1828,
+    5,
+    1798,
+    1814,
+    1813,
+    1817,
+    1848,
+    2062,
+    1799,
+    1847,
+    1845,
+    1846,
+];
+
+const UNSOUND_WORD: [u32; 30] = [
+    4097,
+    17,
+    61,
+    4294967295,
+    9,
+    185,
+    0,
+    3,
+    13,
+    4,
+    9,
+    1,
+    1,
+    0,
+    1,
+    0,
+    4,
+    0,
+    2,
+    2,
+    1,
+    0,
+    0,
+    9,
+    9,
+    4,
+    17,
+    9,
+    3,
+    2,
+];
+
+const UNSOUND_PLACE_TOO: [u32; 30] = [
+    2420,
+    3,
+    2420,
+    3,
+    2420,
+    2420,
+    2420,
+    2420,
+    2420,
+    2420,
+    2420,
+    2420,
+    2420,
+    2420,
+    2420,
+    2420,
+    2420,
+    1831,
+    2420,
+    6,
+    2420,
+    2420,
+    2420,
+    2420,
+    2420,
+    2420,
+    2420,
+    2420,
+    2420,
+    2420,
+];
+
+const UNSOUND_WORD_TOO: [u32; 30] = [
+    0,
+    0,
+    0,
+    4294967295,
+    0,
+    0,
+    0,
+    0,
+    0,
+    0,
+    0,
+    0,
+    0,
+    0,
+    0,
+    0,
+    0,
+    0,
+    0,
+    0,
+    0,
+    0,
+    0,
+    0,
+    0,
+    0,
+    0,
+    0,
+    0,
+    0,
+];
+
+// Odd ones that are sound: nothing odd; the largest is TOP; eight fragments run; no entries; failed ones that own entries; finished without a last fragment; nothing uncommitted, six wait; three wait behind a finished one; a held place and numbers; a held answer with none; garbage behind the live ones and the runs; garbage behind the entries; garbage in held numbers; garbage of an answer that was sent.
+const ODD_PLACE: [u32; 14] = [
+    2420,
+    1,
+    1796,
+    1799,
+    1813,
+    1845,
+    2,
+    2,
+    1816,
+    1817,
+    172,
+    2064,
+    1820,
+    1800,
+];
+
+const ODD_WORD: [u32; 14] = [0, 4294967295, 8, 0, 2, 1, 0, 3, 8, 0, 1, 4294967295, 77, 9];
+
+const ODD_PLACE_TOO: [u32; 14] = [
+    2420,
+    2420,
+    2420,
+    1815,
+    1845,
+    2420,
+    3,
+    3,
+    1817,
+    2420,
+    1860,
+    2419,
+    1826,
+    1801,
+];
+
+const ODD_WORD_TOO: [u32; 14] = [0, 0, 0, 0, 2, 0, 6, 3, 8, 0, 4294967295, 1, 4294967295, 9];
+
+// A place of the output, which has 4,096.
+fn place(n: usize) -> u32 {
+    if n < 4096 { n as u32 } else { 4096 }
+}
+
+// The lines of a call's answers, from a place of the output on; where they end.
+fn put_answers(out: &mut [u8], from: u32, room: &[u32], count: u32) -> u32 {
+    let mut at = from;
+    let mut i: u32 = 0;
+    while i < count {
+        let end = trace::put_a(out, at, room, i);
+        at = place(end);
+        i = i + 1;
+    }
+    at
+}
+
+fn op(code: u32, cell: u32, amount: u32) -> Op {
+    Op {
+        code: code,
+        cell: cell,
+        amount: amount,
+    }
+}
+
+// A fragment of up to three operations.
+fn fragment(flags: u32, coordinator: u32, count: u32, a: Op, b: Op, c: Op) -> Fragment {
+    let none = op(0, 0, 0);
+    Fragment {
+        flags: flags,
+        coordinator: coordinator,
+        count: count,
+        row: [a, b, c, none, none, none, none, none],
+    }
+}
+
+// A fragment of one operation.
+fn arrival(number: u32, flags: u32, coordinator: u32, o: Op) -> Event {
+    Event {
+        kind: 1,
+        number: number,
+        fragment: fragment(flags, coordinator, 1, o, op(0, 0, 0), op(0, 0, 0)),
+    }
+}
+
+fn decision(kind: u32, number: u32) -> Event {
+    Event {
+        kind: kind,
+        number: number,
+        fragment: fragment(0, 0, 0, op(0, 0, 0), op(0, 0, 0), op(0, 0, 0)),
+    }
+}
+
+// The record after one call.
+fn after(r: Record, cells: &mut [u32], event: Event, room: &mut [u32]) -> Record {
+    let d = engine::call(r, cells, event, room);
+    d.next
+}
+
+// Four cells, and uncommitted: 3, finished in two fragments with three entries; single 5, held.
+fn front(cells: &mut [u32], room: &mut [u32]) -> Record {
+    let fresh = engine::start(4);
+    let three = fragment(1, 1, 3, op(2, 0, 1), op(3, 1, 1), op(1, 0, 0));
+    let r3 = after(
+        fresh.next,
+        cells,
+        Event {
+            kind: 1,
+            number: 3,
+            fragment: three,
+        },
+        room,
+    );
+    let r4 = after(r3, cells, arrival(3, 3, 1, op(2, 2, 4)), room);
+    let two = fragment(2, 0, 2, op(3, 0, 1), op(1, 1, 0), op(0, 0, 0));
+    after(
+        r4,
+        cells,
+        Event {
+            kind: 1,
+            number: 5,
+            fragment: two,
+        },
+        room,
+    )
+}
+
+// Behind them multi 6, sent; multi 8 of another coordinator, held and running. Waiting: single 9 and multi 12.
+fn base(cells: &mut [u32], room: &mut [u32]) -> Record {
+    let r5 = front(cells, room);
+    let r6 = after(r5, cells, arrival(6, 3, 1, op(4, 1, 1)), room);
+    let r8 = after(r6, cells, arrival(8, 1, 2, op(7, 3, 9)), room);
+    let r9 = after(r8, cells, arrival(9, 2, 0, op(1, 0, 0)), room);
+    after(r9, cells, arrival(12, 3, 7, op(8, 1, 3)), room)
+}
+
+// The word of a count: the new one where its place is meant.
+fn count_with(place: u32, own: u32, word: u32, old: u32) -> u32 {
+    if place == own { word } else { old }
+}
+
+// A word of the row that starts at a place of the record.
+fn put_from(row: &mut [u32], from: u32, place: u32, word: u32) {
+    if from <= place {
+        operations::put_at(row, (place - from) as usize, word);
+    }
+}
+
+// The record with one word changed: its four counts are places 0 to 3, then its rows follow. Place 2420 is none.
+fn changed(r: Record, place: u32, word: u32) -> Record {
+    let mut live = r.live;
+    let mut runs = r.runs;
+    let mut undo = r.undo;
+    put_from(&mut live, 4, place, word);
+    put_from(&mut runs, 1796, place, word);
+    put_from(&mut undo, 2052, place, word);
+    Record {
+        count: count_with(place, 0, word, r.count),
+        largest: count_with(place, 1, word, r.largest),
+        uncommitted: count_with(place, 2, word, r.uncommitted),
+        waiting: count_with(place, 3, word, r.waiting),
+        live: live,
+        runs: runs,
+        undo: undo,
+    }
+}
+
+// A call whose record is not kept: its lines, and where they end.
+fn try_call(
+    out: &mut [u8],
+    at: u32,
+    position: u32,
+    r: Record,
+    cells: &mut [u32],
+    event: Event,
+    room: &mut [u32],
+) -> u32 {
+    let d = engine::call(r, cells, event, room);
+    let end = trace::put_e(out, at, position, d.number);
+    put_answers(out, place(end), room, d.answers)
+}
+
+// The cells as `base` leaves them.
+fn refill(cells: &mut [u32]) {
+    operations::put_at(cells, 0, 2);
+    operations::put_at(cells, 1, 10);
+    operations::put_at(cells, 2, 4);
+    operations::put_at(cells, 3, 9);
+}
+
+// Each is 1, whatever comes.
+fn unsound(out: &mut [u8], from: u32, r: Record, cells: &mut [u32], room: &mut [u32]) -> u32 {
+    let mut at = from;
+    let mut i: usize = 0;
+    while i < 30 {
+        let one = changed(r, UNSOUND_PLACE[i], UNSOUND_WORD[i]);
+        let two = changed(one, UNSOUND_PLACE_TOO[i], UNSOUND_WORD_TOO[i]);
+        at = try_call(out, at, i as u32 + 1, two, cells, decision(3, 3), room);
+        i = i + 1;
+    }
+    at
+}
+
+// A commit of the front and, on the cells as they were, an abort.
+fn odd(out: &mut [u8], from: u32, r: Record, cells: &mut [u32], room: &mut [u32]) -> u32 {
+    let mut at = from;
+    let mut i: usize = 0;
+    while i < 14 {
+        let one = changed(r, ODD_PLACE[i], ODD_WORD[i]);
+        let two = changed(one, ODD_PLACE_TOO[i], ODD_WORD_TOO[i]);
+        refill(cells);
+        let middle = try_call(out, at, i as u32 + 1, two, cells, decision(2, 3), room);
+        refill(cells);
+        at = try_call(out, middle, i as u32 + 1, two, cells, decision(3, 3), room);
+        i = i + 1;
+    }
+    at
+}
+
+// A call with so many cells, 5 at most, and so much room, 1,024 at most, of an event of no known kind.
+fn lend(out: &mut [u8], at: u32, position: u32, r: Record, many: usize, much: usize) -> u32
+    requires { ⌜ (many ≤ 5) × (much ≤ 1024) ⌝ }
+{
+    let mut cells = [0u32; 5];
+    let mut room = [0u32; 1024];
+    try_call(
+        out,
+        at,
+        position,
+        r,
+        &mut cells[..many],
+        decision(9, 0),
+        &mut room[..much],
+    )
+}
+
+// Refusals 2 and 3, each alone and before the ones behind it.
+fn lent(out: &mut [u8], from: u32, r: Record) -> u32 {
+    let bad = changed(r, 0, 4097);
+    let none = engine::start(0);
+    let a = lend(out, from, 1, bad, 3, 1023);
+    let b = lend(out, a, 2, r, 3, 1023);
+    let c = lend(out, b, 3, r, 3, 1024);
+    let d = lend(out, c, 4, r, 5, 1024);
+    let e = lend(out, d, 5, r, 0, 1024);
+    let f = lend(out, e, 6, none.next, 0, 1024);
+    let g = lend(out, f, 7, none.next, 4, 1024);
+    lend(out, g, 8, r, 4, 1024)
+}
+
+// Starting with none and with too many.
+fn started(out: &mut [u8], from: u32) -> u32 {
+    let none = engine::start(0);
+    let end = trace::put_e(out, from, 9, none.number);
+    let many = engine::start(4097);
+    let last = trace::put_e(out, place(end), 10, many.number);
+    place(last)
+}
+
+fn main() {
+    let mut out = [0u8; 4096];
+    let mut cells = [5u32, 10, 0, 7];
+    let mut room = [0u32; 1024];
+    let r = base(&mut cells, &mut room);
+    let a = unsound(&mut out, 0, r, &mut cells, &mut room);
+    let b = odd(&mut out, a, r, &mut cells, &mut room);
+    let c = lent(&mut out, b, r);
+    let d = started(&mut out, c);
+    if d <= 4096 {
+        io::write_all(STDOUT_FILENO, &out[..d as usize]);
+    }
+}

@@ -1,0 +1,51 @@
+use native.Mathlib.Omega.{arith}
+use Rattle.trace.proofs.Lines.{line-place, line-is, length-fields}
+use borrow.Author.Needs.{needs}
+use Rattle.trace.proofs.put_line.Statement.{statement}
+use Rattle.trace.proofs.put_line.Tie as tie
+use Rattle.trace.proofs.put_line.Reads as reads
+use Rattle.trace.proofs.put_line.Lts as lts
+use Rattle.trace.proofs.put_byte.Reads as put-byte-reads
+use Rattle.trace.proofs.put_fields.Reads as put-fields-reads
+
+-- src/lib.rt:217:5
+put-byte-requires : tie.Need-put-byte-requires
+put-byte-requires c κs = search needs
+
+-- src/lib.rt:218:32
+add-put-fields : tie.Need-add-put-fields
+add-put-fields c = search needs
+
+-- src/lib.rt:218:9
+put-fields-requires : tie.Need-put-fields-requires
+put-fields-requires c κs = search needs
+
+-- src/lib.rt:219:5
+put-byte-requires-2 : tie.Need-put-byte-requires-2
+put-byte-requires-2 c κs = search needs
+
+-- src/lib.rt:220:5
+add-result : tie.Need-add-result
+add-result c = let a = c .before .before .before .before .before .before .before .before .before .before .before .before .before .before .args in omega (arith, c .before .before .before .before .before .before .put-fields .ensures .0, length-fields (a .row .now) (a .from) (a .count), c .before .before .before .before .before .before .before .before .before .before .before .before .before .before .pre, c .before .before .before .before .before .before .before .before .before .before .before .before .before .before .fits)
+
+-- src/lib.rt:211:1
+same-length : tie.Need-same-length
+same-length c = search needs
+
+-- src/lib.rt:211:1
+returns : tie.Need-returns
+returns c = let a = c .before .before .before .before .before .before .before .before .before .before .before .before .before .before .args in
+    let f = c .before .before .before .before .before .before .put-fields in
+    (line-place (a .letter) (a .row .now) (a .from) (a .count) (a .at) (f .result) (f .ensures .0), line-is (a .letter) (a .row .now) (a .from) (a .count) (a .at) (a .buffer .now) (c .before .before .before .before .before .before .before .before .before .before .put-byte .last .0) (f .last .0) (c .before .before .put-byte2 .last .0) (f .result) (c .before .before .before .before .before .before .before .before .before .before .put-byte .ensures) (f .ensures .1) (f .ensures .0) (c .before .before .put-byte2 .ensures))
+
+pub put-line-spec : {M : Type 1} → statement M
+put-line-spec =
+    tie.close
+    (tie.spec
+    put-byte-requires
+    add-put-fields
+    put-fields-requires
+    put-byte-requires-2
+    add-result
+    same-length
+    returns)

@@ -1,0 +1,381 @@
+//! The record and the steps of document 01, in place and on plain lists.
+
+use crate::event::{Event, Fragment, Operation, ADD, COMMIT, FRAGMENT, PLACES, TAKE};
+use std::collections::VecDeque;
+
+pub const MOST_CELLS: u32 = 4096;
+pub const MOST_LIVE: usize = 64;
+pub const DEPTH: usize = 16;
+pub const MOST_FRAGMENTS: u32 = 8;
+/// Numbers in an answer, and the room for answers that every call must lend.
+pub const ANSWER_WORDS: usize = 16;
+pub const ROOM: usize = MOST_LIVE * ANSWER_WORDS;
+
+/// Failed implies finished.
+#[derive(Clone, Copy, Debug, PartialEq, Eq)]
+pub enum State {
+    Running,
+    Finished,
+    Failed,
+}
+
+/// What a fragment gave: a place of failure and no numbers, or place 0 and a number for each operation.
+#[derive(Clone, Debug, Default, PartialEq, Eq)]
+pub struct Outcome {
+    pub place: u32,
+    pub numbers: Vec<u32>,
+}
+
+#[derive(Clone, Debug, PartialEq, Eq)]
+pub struct Answer {
+    pub number: u32,
+    pub dependence: u32,
+    pub outcome: Outcome,
+}
+
+impl Answer {
+    pub fn words(&self) -> [u32; ANSWER_WORDS] {
+        let Outcome { place, numbers } = &self.outcome;
+        let mut words = [0; ANSWER_WORDS];
+        words[..4].copy_from_slice(&[self.number, self.dependence, *place, numbers.len() as u32]);
+        words[4..4 + numbers.len()].copy_from_slice(numbers);
+        words
+    }
+}
+
+#[derive(Clone, Debug, PartialEq, Eq)]
+pub struct Uncommitted {
+    pub first: Fragment,
+    pub fragments_run: u32,
+    pub state: State,
+    /// Nothing where the answer was sent.
+    pub held: Option<Outcome>,
+    /// (cell, old number), oldest first.
+    pub undo: Vec<(u32, u32)>,
+}
+
+impl Uncommitted {
+    /// The clauses of refusal 1 about one uncommitted transaction, but for its number and its fragment.
+    fn sound(&self, is_front: bool, is_tail: bool, cells: u32) -> bool {
+        let most_fragments = if is_front { MOST_FRAGMENTS } else { 1 };
+        let reply = match &self.held {
+            Some(held) => !is_front && held.place <= PLACES as u32 && held.numbers.len() <= PLACES,
+            None => self.first.is_multi(),
+        };
+        (1..=most_fragments).contains(&self.fragments_run)
+            && (!is_front || self.first.is_multi())
+            && reply
+            && (self.state != State::Running || is_tail)
+            && self.undo.len() <= PLACES * self.fragments_run as usize
+            && self.undo.iter().all(|&(cell, _)| cell < cells)
+    }
+}
+
+#[derive(Clone, Debug, PartialEq, Eq)]
+pub struct Record {
+    pub cells: u32,
+    pub largest: u32,
+    /// The first one is the front.
+    pub uncommitted: VecDeque<Uncommitted>,
+    pub waiting: VecDeque<Fragment>,
+}
+
+impl Record {
+    pub fn live(&self) -> impl Iterator<Item = &Fragment> {
+        self.uncommitted.iter().map(|one| &one.first).chain(&self.waiting)
+    }
+
+    /// The list of refusal 1 and no stricter.
+    pub fn sound(&self) -> bool {
+        let mut before = 0;
+        let mut rises = |number| std::mem::replace(&mut before, number) < number;
+        let tail = self.uncommitted.len().wrapping_sub(1);
+        self.cells <= MOST_CELLS
+            && self.uncommitted.len() <= DEPTH
+            && self.live().count() <= MOST_LIVE
+            && self.live().all(|stored| {
+                rises(stored.number)
+                    && stored.number <= self.largest
+                    && stored.well_formed()
+                    && stored.inside(self.cells)
+            })
+            && self.uncommitted.iter().enumerate().all(|(at, one)| one.sound(at == 0, at == tail, self.cells))
+    }
+}
+
+/// The errors of the trade and a few more, to show that a comparison notices them.
+#[derive(Clone, Copy, Debug, PartialEq, Eq)]
+pub enum Fault {
+    None,
+    UndoOldestFirst,
+    SpeculateBehindUnfinishedFront,
+    RequeueReversed,
+    SingleAnsweredEarly,
+    SinglesCountAsForeign,
+    AnswerRepeated,
+    AddWraps,
+    TakeFailsOnEquality,
+    FailureKeepsWrites,
+    CellsBeforeForm,
+    CoordinatorBeforeFinished,
+    Depth17,
+    Live65,
+}
+
+impl Fault {
+    pub const ALL: [Fault; 13] = [
+        Fault::UndoOldestFirst,
+        Fault::SpeculateBehindUnfinishedFront,
+        Fault::RequeueReversed,
+        Fault::SingleAnsweredEarly,
+        Fault::SinglesCountAsForeign,
+        Fault::AnswerRepeated,
+        Fault::AddWraps,
+        Fault::TakeFailsOnEquality,
+        Fault::FailureKeepsWrites,
+        Fault::CellsBeforeForm,
+        Fault::CoordinatorBeforeFinished,
+        Fault::Depth17,
+        Fault::Live65,
+    ];
+}
+
+#[derive(Clone, Debug)]
+pub struct Engine {
+    pub record: Record,
+    pub fault: Fault,
+}
+
+impl Engine {
+    /// The returned number and the engine; with a bad count of cells one that refuses everything.
+    pub fn start(cells: u32) -> (u32, Engine) {
+        let good = (1..=MOST_CELLS).contains(&cells);
+        let record = Record {
+            cells: if good { cells } else { 0 },
+            largest: 0,
+            uncommitted: VecDeque::new(),
+            waiting: VecDeque::new(),
+        };
+        (if good { 0 } else { 3 }, Engine::of(record))
+    }
+
+    pub fn of(record: Record) -> Engine {
+        Engine { record, fault: Fault::None }
+    }
+
+    /// The returned number and the answers; `room` is how many numbers were lent for these.
+    pub fn call(&mut self, cells: &mut [u32], event: &Event, room: usize) -> (u32, Vec<Answer>) {
+        let refused = self.refusal(cells, event, room);
+        let mut answers = Vec::new();
+        if refused == 0 {
+            match event.kind {
+                FRAGMENT => self.arrive(event.fragment, cells, &mut answers),
+                COMMIT => self.settle(&mut answers),
+                _ => self.abort(cells),
+            }
+            self.drain(cells, &mut answers);
+        }
+        (refused, answers)
+    }
+
+    fn refusal(&self, cells: &[u32], event: &Event, room: usize) -> u32 {
+        let record = &self.record;
+        let number = event.fragment.number;
+        let front = record.uncommitted.front().filter(|front| front.first.number == number);
+        let live = record.live().any(|stored| stored.number == number);
+        let outside = event.kind == FRAGMENT && !event.fragment.inside(record.cells);
+
+        // What a faulty engine leaves may be unsound; it shall go on and show its error.
+        if self.fault == Fault::None && !record.sound() {
+            1
+        } else if room < ROOM {
+            2
+        } else if cells.is_empty() || cells.len() != record.cells as usize {
+            3
+        } else if self.fault == Fault::CellsBeforeForm && outside {
+            5
+        } else if !event.well_formed() {
+            4
+        } else if outside {
+            5
+        } else if !live && number <= record.largest {
+            6
+        } else if live && front.is_none() {
+            7
+        } else if event.kind == FRAGMENT {
+            self.fragment_refusal(front, &event.fragment)
+        } else {
+            match front.map(|front| front.state) {
+                None => 12,
+                Some(State::Running) if event.kind == COMMIT => 13,
+                Some(State::Failed) if event.kind == COMMIT => 14,
+                Some(_) => 0,
+            }
+        }
+    }
+
+    /// Refusals 8 to 11: a fragment for the front, or a new number where `front` is nothing.
+    fn fragment_refusal(&self, front: Option<&Uncommitted>, fragment: &Fragment) -> u32 {
+        let Some(front) = front else {
+            return if self.record.live().count() >= self.most_live() { 10 } else { 0 };
+        };
+        let foreign = !fragment.is_multi() || fragment.coordinator != front.first.coordinator;
+        if self.fault == Fault::CoordinatorBeforeFinished && foreign {
+            9
+        } else if front.state != State::Running {
+            8
+        } else if foreign {
+            9
+        } else if front.fragments_run >= MOST_FRAGMENTS {
+            11
+        } else {
+            0
+        }
+    }
+
+    fn arrive(&mut self, fragment: Fragment, cells: &mut [u32], answers: &mut Vec<Answer>) {
+        let fault = self.fault;
+        match self.record.uncommitted.front_mut().filter(|front| front.first.number == fragment.number) {
+            Some(front) => {
+                let outcome = run(front, &fragment, cells, fault);
+                answers.push(Answer { number: fragment.number, dependence: 0, outcome });
+            }
+            None => {
+                self.record.largest = fragment.number;
+                self.record.waiting.push_back(fragment);
+            }
+        }
+    }
+
+    /// The front settles, then the singles behind it; the next multi is the new front.
+    fn settle(&mut self, answers: &mut Vec<Answer>) {
+        let uncommitted = &mut self.record.uncommitted;
+        uncommitted.pop_front();
+        while let Some(next) = uncommitted.front_mut() {
+            let is_front = next.first.is_multi();
+            if let Some(outcome) = next.held.take() {
+                answers.push(Answer { number: next.first.number, dependence: 0, outcome });
+            }
+            if is_front {
+                break;
+            }
+            uncommitted.pop_front();
+        }
+    }
+
+    fn abort(&mut self, cells: &mut [u32]) {
+        for one in self.record.uncommitted.iter_mut().rev() {
+            undo(one, cells, self.fault);
+        }
+        self.record.uncommitted.pop_front();
+        self.requeue();
+    }
+
+    /// All uncommitted ones return to the head of the waiting queue in their old order.
+    fn requeue(&mut self) {
+        let Record { uncommitted, waiting, .. } = &mut self.record;
+        let reversed = self.fault == Fault::RequeueReversed;
+        while let Some(one) = if reversed { uncommitted.pop_front() } else { uncommitted.pop_back() } {
+            waiting.push_front(one.first);
+        }
+    }
+
+    fn drain(&mut self, cells: &mut [u32], answers: &mut Vec<Answer>) {
+        while self.may_run_next() {
+            let Some(first) = self.record.waiting.pop_front() else { break };
+            let alone = self.record.uncommitted.is_empty();
+            let dependence = if alone { Some(0) } else { self.dependence(&first) };
+            let mut one = Uncommitted { first, fragments_run: 0, state: State::Running, held: None, undo: Vec::new() };
+            let outcome = run(&mut one, &first, cells, self.fault);
+            if let Some(dependence) = dependence {
+                answers.push(Answer { number: first.number, dependence, outcome: outcome.clone() });
+            }
+            let repeats = self.fault == Fault::AnswerRepeated && first.is_multi() && !alone;
+            if dependence.is_none() || repeats {
+                one.held = Some(outcome);
+            }
+            // A single alone settles at once.
+            if first.is_multi() || !alone {
+                self.record.uncommitted.push_back(one);
+            }
+        }
+    }
+
+    fn may_run_next(&self) -> bool {
+        let uncommitted = &self.record.uncommitted;
+        let careless = self.fault == Fault::SpeculateBehindUnfinishedFront && uncommitted.len() == 1;
+        match uncommitted.back() {
+            None => true,
+            Some(tail) => uncommitted.len() < self.depth() && (tail.state != State::Running || careless),
+        }
+    }
+
+    /// What the answer of one that joins the uncommitted ones depends on, or nothing if it is held.
+    fn dependence(&self, joining: &Fragment) -> Option<u32> {
+        let ahead = self.record.uncommitted.iter().map(|one| &one.first);
+        if !joining.is_multi() {
+            return (self.fault == Fault::SingleAnsweredEarly).then_some(0);
+        }
+        let singles_count = self.fault == Fault::SinglesCountAsForeign;
+        let one_coordinator = ahead
+            .clone()
+            .filter(|first| first.is_multi() || singles_count)
+            .all(|first| first.coordinator == joining.coordinator);
+        let nearest = ahead.rev().find(|first| first.is_multi())?;
+        one_coordinator.then_some(nearest.number)
+    }
+
+    fn depth(&self) -> usize {
+        DEPTH + usize::from(self.fault == Fault::Depth17)
+    }
+
+    fn most_live(&self) -> usize {
+        MOST_LIVE + usize::from(self.fault == Fault::Live65)
+    }
+}
+
+/// Runs one fragment of a transaction; if it fails, everything the transaction changed is taken back at once.
+fn run(one: &mut Uncommitted, fragment: &Fragment, cells: &mut [u32], fault: Fault) -> Outcome {
+    let earlier = one.undo.len();
+    let mut numbers = Vec::new();
+    one.fragments_run += 1;
+    for (place, operation) in (1..).zip(fragment.used()) {
+        let content = &mut cells[operation.cell as usize];
+        let Some(after) = apply(operation, *content, fault) else {
+            if fault == Fault::FailureKeepsWrites {
+                one.undo.truncate(earlier);
+            }
+            undo(one, cells, fault);
+            one.state = State::Failed;
+            return Outcome { place, numbers: Vec::new() };
+        };
+        if operation.writes() {
+            one.undo.push((operation.cell, *content));
+            *content = after;
+        }
+        numbers.push(after);
+    }
+    if fragment.is_last() {
+        one.state = State::Finished;
+    }
+    Outcome { place: 0, numbers }
+}
+
+fn apply(operation: &Operation, content: u32, fault: Fault) -> Option<u32> {
+    match (fault, operation.code) {
+        (Fault::AddWraps, ADD) => Some(content.wrapping_add(operation.amount)),
+        (Fault::TakeFailsOnEquality, TAKE) if content == operation.amount => None,
+        _ => operation.apply(content),
+    }
+}
+
+/// Walks a transaction's entries from the newest to the oldest and drops them.
+fn undo(one: &mut Uncommitted, cells: &mut [u32], fault: Fault) {
+    let mut entries = std::mem::take(&mut one.undo);
+    if fault == Fault::UndoOldestFirst {
+        entries.reverse();
+    }
+    for (cell, old) in entries.into_iter().rev() {
+        cells[cell as usize] = old;
+    }
+}

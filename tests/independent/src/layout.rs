@@ -1,0 +1,102 @@
+//! The record as words, so that damaged ones can be handed to a call.
+//!
+//! counts: cells, largest, uncommitted, waiting
+//! live: 64 rows of 28: number, flags, coordinator, operation count, eight times code, cell, amount;
+//!       the uncommitted ones, then the waiting ones
+//! runs: 16 rows of 16, one beside each uncommitted one: fragments run, state (0 running, 1 finished, 2 failed),
+//!       reply (0 sent, 1 held), number of its own undo entries, held place, held count, eight held numbers, two zeros
+//! undo: 184 pairs of cell and old number, in queue order, oldest first
+
+use crate::engine::{Engine, Outcome, Record, State, Uncommitted, ANSWER_WORDS, DEPTH, MOST_LIVE};
+use crate::event::{Event, Fragment, EVENT_WORDS, FRAGMENT_WORDS, PLACES};
+
+pub const RUN_WORDS: usize = 16;
+pub const UNDO_ENTRIES: usize = 184;
+pub const LIVE: usize = 4;
+pub const RUNS: usize = LIVE + MOST_LIVE * FRAGMENT_WORDS;
+pub const UNDO: usize = RUNS + DEPTH * RUN_WORDS;
+pub const WORDS: usize = UNDO + 2 * UNDO_ENTRIES;
+
+pub type Words = [u32; WORDS];
+
+/// Starts with a count of cells: the returned number and the record.
+pub fn start(cells: u32) -> (u32, Words) {
+    let (number, engine) = Engine::start(cells);
+    (number, lay_out(&engine.record))
+}
+
+/// One call: the returned number, how many answers fill `room` from its start, and the next record.
+pub fn call(words: &Words, cells: &mut [u32], event: &[u32; EVENT_WORDS], room: &mut [u32]) -> (u32, u32, Words) {
+    let Some(record) = read(words) else { return (1, 0, *words) };
+    let mut engine = Engine::of(record);
+    let (number, answers) = engine.call(cells, &Event::read(event), room.len());
+    if number != 0 {
+        // Laying out would clear garbage in unused places.
+        return (number, 0, *words);
+    }
+    for (place, answer) in room.chunks_exact_mut(ANSWER_WORDS).zip(&answers) {
+        place.copy_from_slice(&answer.words());
+    }
+    (0, answers.len() as u32, lay_out(&engine.record))
+}
+
+/// Lays out a sound record. Every unused place is zero, a sent answer's held words too.
+pub fn lay_out(record: &Record) -> Words {
+    let mut words = [0; WORDS];
+    let counts = [record.uncommitted.len() as u32, record.waiting.len() as u32];
+    words[..4].copy_from_slice(&[record.cells, record.largest, counts[0], counts[1]]);
+    for (row, stored) in words[LIVE..RUNS].chunks_exact_mut(FRAGMENT_WORDS).zip(record.live()) {
+        row.copy_from_slice(&stored.words());
+    }
+    for (row, one) in words[RUNS..UNDO].chunks_exact_mut(RUN_WORDS).zip(&record.uncommitted) {
+        let state = match one.state {
+            State::Running => 0,
+            State::Finished => 1,
+            State::Failed => 2,
+        };
+        row[..4].copy_from_slice(&[one.fragments_run, state, u32::from(one.held.is_some()), one.undo.len() as u32]);
+        if let Some(Outcome { place, numbers }) = &one.held {
+            row[4..6].copy_from_slice(&[*place, numbers.len() as u32]);
+            row[6..6 + numbers.len()].copy_from_slice(numbers);
+        }
+    }
+    let entries = record.uncommitted.iter().flat_map(|one| &one.undo);
+    for (pair, &(cell, old)) in words[UNDO..].chunks_exact_mut(2).zip(entries) {
+        pair.copy_from_slice(&[cell, old]);
+    }
+    words
+}
+
+/// The record that the words stand for, or nothing where they stand for none, which is unsound too.
+pub fn read(words: &Words) -> Option<Record> {
+    let (cells, largest, uncommitted, waiting) = (words[0], words[1], words[2] as usize, words[3] as usize);
+    if uncommitted > DEPTH || waiting > MOST_LIVE - uncommitted {
+        return None;
+    }
+    let mut live = words[LIVE..RUNS].chunks_exact(FRAGMENT_WORDS).map(Fragment::read);
+    let mut runs = words[RUNS..UNDO].chunks_exact(RUN_WORDS);
+    let mut entries = &words[UNDO..];
+    let mut read_one = || {
+        let (first, run) = (live.next()?, runs.next()?);
+        let state = match run[1] {
+            0 => State::Running,
+            1 => State::Finished,
+            2 => State::Failed,
+            _ => return None,
+        };
+        let held = match (run[2], run[5] as usize) {
+            (0, _) => None,
+            (1, count) if count <= PLACES => Some(Outcome { place: run[4], numbers: run[6..6 + count].to_vec() }),
+            _ => return None,
+        };
+        if run[3] as usize > entries.len() / 2 {
+            return None;
+        }
+        let (own, others) = entries.split_at(2 * run[3] as usize);
+        entries = others;
+        let undo = own.chunks_exact(2).map(|pair| (pair[0], pair[1])).collect();
+        Some(Uncommitted { first, fragments_run: run[0], state, held, undo })
+    };
+    let uncommitted = (0..uncommitted).map(|_| read_one()).collect::<Option<_>>()?;
+    Some(Record { cells, largest, uncommitted, waiting: live.take(waiting).collect() })
+}

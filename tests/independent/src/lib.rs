@@ -1,0 +1,18 @@
+//! A second engine of one partition, written from document 01 and its readings alone and sharing nothing with the
+//! first, so that a difference between the two points at an error or at a place where the rules can be read two ways.
+//!
+//! * `event`: events, fragments, operations; what refusals 4 and 5 ask of them
+//! * `engine`: the record, the steps, the refusals; `Fault` makes it commit a known error on purpose
+//! * `layout`: the record as words, and a call on words
+//! * `trace`: the trace program; `examples`: traces worth keeping; `generate`: seeded traces and what they reach
+
+pub mod engine;
+pub mod event;
+pub mod examples;
+pub mod generate;
+pub mod layout;
+pub mod trace;
+
+pub use engine::{Answer, Engine, Fault, Outcome, Record, State, Uncommitted};
+pub use event::{Event, Fragment, Operation, TOP};
+pub use layout::{call, start};

@@ -1,0 +1,330 @@
+//! The depot cases, the examples, the order of the refusals, the trace program, and what the generator reaches.
+
+use independent::event::*;
+use independent::examples;
+use independent::generate::{self, Reach};
+use independent::trace::{self, replay, replay_with};
+use independent::{Engine, Fault, Operation, State};
+
+fn prints(cells: &[u32], events: &[Event]) -> String {
+    replay(&trace::write(cells, events))
+}
+
+/// The output without the `e` lines of accepted events.
+fn matters(cells: &[u32], events: &[Event]) -> Vec<String> {
+    let accepted = |line: &&str| line.starts_with("e ") && line.ends_with(" 0");
+    prints(cells, events).lines().filter(|line| !accepted(line)).map(String::from).collect()
+}
+
+#[test]
+fn p1_to_p9() {
+    let depot = [5, 10];
+    let p1 = "e 1 0\na 1 0 0 1 5\ne 2 0\ne 3 0\ne 4 0\na 1 0 0 1 17\ne 5 0\na 2 0 0 1 18\na 3 0 0 1 19\nc 0 19\n";
+    assert_eq!(prints(&[5], &examples::p1()), p1);
+
+    let mut p2 = examples::p1();
+    p2[4] = Event::abort(1);
+    assert_eq!(matters(&[5], &p2), ["a 1 0 0 1 5", "a 1 0 0 1 17", "a 2 0 0 1 6", "a 3 0 0 1 7", "c 0 7"]);
+
+    let p3 = examples::p3();
+    assert_eq!(matters(&depot, &p3[..1]), ["a 1 0 0 2 9 8", "c 0 5", "c 1 8"]);
+    assert_eq!(matters(&depot, &p3), ["a 1 0 0 2 9 8", "c 0 5", "c 1 10"]);
+
+    assert_eq!(matters(&depot, &[Event::single(1, &[(TAKE, 1, 10)])]), ["a 1 0 0 1 0", "c 0 5", "c 1 0"]);
+    assert_eq!(matters(&depot, &[Event::single(1, &[(TAKE, 1, 11)])]), ["a 1 0 1 0", "c 0 5", "c 1 10"]);
+
+    let p6 = [Event::single(1, &[(ADD, 0, 0)]), Event::single(2, &[(ADD, 0, 1)])];
+    assert_eq!(matters(&[TOP], &p6), ["a 1 0 0 1 4294967295", "a 2 0 1 0", "c 0 4294967295"]);
+
+    assert_eq!(matters(&depot, &examples::p7()), ["a 1 0 0 1 17", "a 3 1 0 1 19", "c 0 19", "c 1 10"]);
+
+    let p8 = ["a 1 0 0 1 17", "a 3 1 0 1 19", "e 5 7", "a 2 0 0 1 18", "a 4 0 0 1 19", "c 0 19", "c 1 10"];
+    assert_eq!(matters(&depot, &examples::p8()), p8);
+
+    let p9 = [
+        Event::open(1, 1, &[(READ, 0, 0)]),
+        Event::commit(1),
+        Event::open(1, 1, &[(SET, 0, 1), (TAKE, 1, 11)]),
+        Event::commit(1),
+    ];
+    assert_eq!(matters(&depot, &p9), ["a 1 0 0 1 5", "e 2 13", "a 1 0 2 0", "e 4 14", "c 0 5", "c 1 10"]);
+}
+
+#[test]
+fn every_code_at_its_edges() {
+    let after = |code, content, amount| Operation { code, cell: 0, amount }.apply(content);
+    assert_eq!(after(READ, 5, 0), Some(5));
+    assert_eq!(after(SET, 5, 0), Some(0));
+    assert_eq!([after(ADD, 5, TOP - 5), after(ADD, 5, TOP - 4)], [Some(TOP), None]);
+    assert_eq!([after(TAKE, 5, 5), after(TAKE, 5, 6)], [Some(0), None]);
+    assert_eq!([after(NEED, 5, 5), after(NEED, 5, 6)], [Some(5), None]);
+    assert_eq!([after(MATCH, 5, 5), after(MATCH, 5, 4)], [Some(5), None]);
+    assert_eq!([after(RAISE, 5, 4), after(RAISE, 5, 6)], [Some(5), Some(6)]);
+    assert_eq!([after(LOWER, 5, 4), after(LOWER, 5, 6)], [Some(4), Some(5)]);
+}
+
+#[test]
+fn examples_show_what_they_are_for() {
+    for example in examples::all() {
+        let bytes = example.bytes();
+        if example.shows != Fault::None {
+            assert_ne!(replay(&bytes), replay_with(&bytes, example.shows), "{}", example.name);
+        }
+    }
+    let output = |name| replay(&examples::all().iter().find(|example| example.name == name).expect(name).bytes());
+    assert!(output("depth16").contains("a 16 1 0 1 115\ne 17 0\ne 18 7\ne 19 0\n"));
+    assert!(output("live64").contains("e 65 10\n") && output("live64").contains("e 70 0\na 65 0 0 1 63\n"));
+    assert!(output("ninth-fragment").contains("e 8 0\na 1 0 0 1 2\ne 9 11\n"));
+    assert!(output("shelf40").contains("e 12 0\na 3 0 0 1 3\na 4 0 0 2 3 1\na 5 0 1 0\n"));
+}
+
+/// Every form that 4 refuses, each spoiled by one thing alone.
+fn malformed() -> Vec<Event> {
+    let single = Event::single(9, &[(ADD, 0, 1), (READ, 0, 0)]);
+    let multi = Event::last(9, 1, &[(ADD, 0, 1)]);
+    let with = |event: &Event, changes: &[(usize, u32)]| {
+        let mut words = event.words();
+        changes.iter().for_each(|&(at, word)| words[at] = word);
+        Event::read(&words)
+    };
+    let mut events = vec![Event::default(), Event::single(9, &[]), Event::last(9, 1, &[])];
+    events.extend([0, 2, 3, 4, TOP].map(|kind| with(&single, &[(0, kind)])));
+    events.extend([single, multi, Event::commit(9), Event::abort(9)].map(|event| with(&event, &[(1, 0)])));
+    events.extend([0, 4, 6, 8, 1 << 31 | 2].map(|flags| with(&single, &[(2, flags)])));
+    events.extend([5, 7, 1 << 31 | 3].map(|flags| with(&multi, &[(2, flags)])));
+    events.extend([1, 255, 256, TOP].map(|coordinator| with(&single, &[(3, coordinator)])));
+    events.extend([0, 256, TOP].map(|coordinator| with(&multi, &[(3, coordinator)])));
+    // A count too small leaves an unused place that is not zero, one too large a used one without a code.
+    events.extend([0, 1, 3, 8, 9, TOP].map(|count| with(&single, &[(4, count)])));
+    events.push(with(&Event::single(9, &[(READ, 0, 0); 8]), &[(4, 9)]));
+    events.extend([0, 9, TOP].map(|code| with(&single, &[(5, code)])));
+    events.push(with(&single, &[(10, 1)]));
+    events.extend((11..EVENT_WORDS).map(|unused| with(&single, &[(unused, 1)])));
+    events.extend((2..EVENT_WORDS).map(|more| with(&Event::commit(9), &[(more, 1)])));
+    events.extend((2..EVENT_WORDS).map(|more| with(&Event::abort(9), &[(more, TOP)])));
+    events
+}
+
+#[test]
+fn four_refuses_each_form_and_no_other() {
+    for event in malformed() {
+        assert!(!event.well_formed(), "{:?}", event.words());
+    }
+    let right = [Event::single(TOP, &[(LOWER, TOP, TOP); 8]), Event::open(1, 255, &[(READ, 0, 0)]), Event::commit(TOP)];
+    assert!(right.iter().all(Event::well_formed));
+}
+
+/// An engine of two cells (5, 10) that was handed the events; all of them accepted.
+fn after(events: &[Event]) -> (Engine, Vec<u32>) {
+    let (number, mut engine) = Engine::start(2);
+    let mut cells = vec![5, 10];
+    assert_eq!(number, 0);
+    for event in events {
+        assert_eq!(engine.call(&mut cells, event, 1024).0, 0, "{event:?}");
+    }
+    (engine, cells)
+}
+
+#[test]
+fn refusals_in_their_order() {
+    let outside = (READ, 2, 0);
+    let read = (READ, 0, 0);
+    let fails = (NEED, 0, TOP);
+    let running = [Event::single(2, &[read]), Event::open(4, 1, &[read]), Event::single(6, &[read])];
+    let finished = [&running[..], &[Event::last(4, 1, &[read])]].concat();
+    let failed = [&running[..], &[Event::open(4, 1, &[fails])]].concat();
+    let eight = [&running[..], &vec![Event::open(4, 1, &[read]); 7]].concat();
+    let full = [&running[..], &(7..=68).map(|number| Event::single(number, &[read])).collect::<Vec<_>>()].concat();
+
+    let check = |before: &[Event], event: Event, expected: u32| {
+        let (mut engine, mut cells) = after(before);
+        let (record, contents) = (engine.record.clone(), cells.clone());
+        let (number, answers) = engine.call(&mut cells, &event, 1024);
+        assert_eq!(number, expected, "{event:?}");
+        if number != 0 {
+            assert!(answers.is_empty() && engine.record == record && cells == contents);
+        }
+        // 2 comes before everything but 1, and 3 next.
+        assert_eq!(engine.call(&mut cells, &event, 1023).0, 2);
+        assert_eq!(engine.call(&mut [], &event, 0).0, 2);
+        for lent in [0, 1, 3] {
+            assert_eq!(engine.call(&mut vec![0; lent], &event, 1024).0, 3);
+        }
+    };
+    let bad_code_last = [outside, read, read, read, read, read, read, (9, 0, 0)];
+    for before in [&[][..], &running, &finished, &failed, &full] {
+        malformed().into_iter().for_each(|event| check(before, event, 4));
+        check(before, Event::single(100, &bad_code_last), 4);
+        check(before, Event::single(100, &[read, outside]), 5);
+    }
+    // 5 before 6 to 11.
+    for number in [1, 2, 3, 4, 6] {
+        check(&finished, Event::last(number, 2, &[outside]), 5);
+    }
+    check(&full, Event::single(69, &[outside]), 5);
+    check(&eight, Event::open(4, 1, &[outside]), 5);
+    // Numbers of the past, and skipped ones, whatever comes with them.
+    for number in [1, 2, 3, 5] {
+        for event in [Event::last(number, 2, &[read]), Event::commit(number), Event::abort(number)] {
+            check(&finished, event, 6);
+            check(&full, event, 6);
+        }
+    }
+    for event in [Event::single(6, &[read]), Event::last(6, 9, &[read]), Event::commit(6), Event::abort(6)] {
+        check(&running, event, 7);
+        check(&finished, event, 7);
+        check(&full, event, 7);
+    }
+    for event in [Event::last(4, 1, &[read]), Event::open(4, 2, &[read]), Event::single(4, &[read])] {
+        check(&finished, event, 8);
+        check(&failed, event, 8);
+    }
+    for event in [Event::last(4, 2, &[read]), Event::single(4, &[read])] {
+        check(&running, event, 9);
+        check(&eight, event, 9);
+        check(&full, event, 9);
+    }
+    check(&full, Event::single(69, &[read]), 10);
+    check(&full, Event::open(TOP, 1, &[read]), 10);
+    check(&full, Event::open(4, 1, &[read]), 0);
+    check(&eight, Event::open(4, 1, &[read]), 11);
+    check(&eight, Event::last(4, 1, &[read]), 11);
+    for event in [Event::commit(69), Event::abort(69), Event::commit(TOP)] {
+        check(&full, event, 12);
+        check(&[], event, 12);
+    }
+    check(&running, Event::commit(4), 13);
+    check(&eight, Event::commit(4), 13);
+    check(&failed, Event::commit(4), 14);
+    for before in [&running[..], &finished, &failed, &eight, &full] {
+        check(before, Event::abort(4), 0);
+    }
+    check(&finished, Event::commit(4), 0);
+}
+
+/// A failed front takes back its earlier fragments before the drain; a failed single is answered in its turn.
+#[test]
+fn failing() {
+    let events = [
+        Event::open(1, 1, &[(SET, 0, 1)]),
+        Event::single(2, &[(SET, 1, 0), (NEED, 0, 6)]),
+        Event::last(3, 2, &[(ADD, 0, 1)]),
+        Event::open(1, 1, &[(SET, 0, 2), (ADD, 1, 1), (TAKE, 0, 3)]),
+        Event::last(1, 1, &[(READ, 0, 0)]),
+        Event::abort(1),
+        Event::commit(3),
+    ];
+    let expected = ["a 1 0 0 1 1", "a 1 0 3 0", "e 5 8", "a 2 0 2 0", "a 3 0 0 1 6", "c 0 6", "c 1 10"];
+    assert_eq!(matters(&[5, 10], &events), expected);
+}
+
+#[test]
+fn bad_traces() {
+    let good = trace::write(&[5], &[Event::default()]);
+    assert_eq!(replay(&good), "e 1 4\nc 0 5\n");
+    assert_eq!(replay(&trace::write(&[5], &[])), "c 0 5\n");
+    assert_eq!(replay(&trace::write(&[0; 4096], &[Event::default(); 256])).lines().count(), 4096 + 256);
+    let with = |at: usize, word: u32| {
+        let mut bytes = good.clone();
+        bytes[4 * at..4 * at + 4].copy_from_slice(&word.to_le_bytes());
+        bytes
+    };
+    let mut bad = vec![Vec::new(), vec![0; 16], trace::write(&[], &[]), trace::write(&[0; 4097], &[])];
+    bad.push(trace::write(&[5], &[Event::default(); 257]));
+    bad.extend((0..good.len()).map(|length| good[..length].to_vec()));
+    bad.extend([1, 2, 3, 4, 116].map(|more| [&good[..], &vec![0; more]].concat()));
+    bad.extend(
+        [(0, 0), (0, 2), (0, TOP), (1, 3), (1, 5), (2, 0), (2, 2), (2, 257), (3, 4), (3, 6)].map(|(a, w)| with(a, w)),
+    );
+    bad.extend([with(2, 1 + (1 << 30)), with(3, TOP)]);
+    for bytes in bad {
+        assert_eq!(replay(&bytes), "bad trace\n", "{} bytes", bytes.len());
+    }
+}
+
+#[test]
+fn generated_traces_reach_everything() {
+    let mut reach = Reach::default();
+    (1..=64).for_each(|seed| reach.note_trace(&generate::trace(seed)));
+    assert!(reach.missing().is_empty(), "{:?}", reach.missing());
+    assert!(reach.requeued.iter().all(|&count| count > 0) && reach.stopped_by_depth > 0 && reach.stopped_by_tail > 0);
+    for fault in Fault::ALL {
+        let shows = |seed: &u64| replay(&generate::trace(*seed)) != replay_with(&generate::trace(*seed), fault);
+        assert!((1..=64).any(|seed| shows(&seed)), "{fault:?}");
+    }
+}
+
+/// Each clause of 4 must be met alone: repairing that one thing makes the event well formed.
+#[test]
+fn generated_events_break_each_clause_of_4_alone() {
+    type Repair = (&'static str, fn(&mut Event));
+    let repairs: [Repair; 10] = [
+        ("kind", |event| event.kind = if (FRAGMENT..=ABORT).contains(&event.kind) { event.kind } else { FRAGMENT }),
+        ("number", |event| event.fragment.number = 1),
+        ("count", |event| {
+            event.fragment.count = event.fragment.operations.iter().take_while(|o| o.code != 0).count() as u32
+        }),
+        ("code", |event| {
+            let used = event.fragment.used().len();
+            event.fragment.operations[..used]
+                .iter_mut()
+                .for_each(|o| o.code = if (READ..=LOWER).contains(&o.code) { o.code } else { LOWER });
+        }),
+        ("read", |event| event.fragment.operations.iter_mut().filter(|o| o.code == READ).for_each(|o| o.amount = 0)),
+        ("unused", |event| {
+            let used = event.fragment.used().len();
+            event.fragment.operations[used..].fill(Operation::default());
+        }),
+        ("not last", |event| event.fragment.flags |= LAST),
+        ("coordinator", |event| event.fragment.coordinator = u32::from(event.fragment.is_multi())),
+        ("flag", |event| event.fragment.flags &= MULTI | LAST),
+        ("decision", |event| {
+            if event.kind != FRAGMENT {
+                *event = Event { kind: event.kind, ..Event::commit(event.fragment.number) };
+            }
+        }),
+    ];
+    let traces = (1..=200).filter_map(|seed| trace::read(&generate::trace(seed)));
+    let events: Vec<Event> = traces.flat_map(|trace| trace.events).filter(|event| !event.well_formed()).collect();
+    for (name, repair) in repairs {
+        let alone = |event: &&Event| {
+            let mut event = **event;
+            repair(&mut event);
+            event.well_formed()
+        };
+        assert!(events.iter().filter(alone).count() >= 5, "{name}");
+    }
+}
+
+/// The readings' facts of every run from a fresh start, over generated traces.
+#[test]
+fn facts_of_every_run() {
+    for trace in (1..=200).filter_map(|seed| trace::read(&generate::trace(seed))) {
+        trace::play(&trace, Fault::None, |step| {
+            let record = step.after;
+            assert!(record.sound());
+            let tail_runs = record.uncommitted.back().map(|tail| tail.state == State::Running);
+            assert!(record.waiting.is_empty() || tail_runs == Some(true) || record.uncommitted.len() == 16);
+            for (at, one) in record.uncommitted.iter().enumerate() {
+                let first = &one.first;
+                let failed = one.state == State::Failed;
+                let writes = first.used().iter().filter(|operation| operation.writes()).count();
+                assert!(!failed || one.undo.is_empty());
+                if one.fragments_run == 1 && !failed {
+                    assert_eq!(one.undo.len(), writes);
+                    assert_eq!(one.state == State::Finished, first.is_last());
+                }
+                match &one.held {
+                    Some(held) if failed => assert!((1..=first.count).contains(&held.place) && held.numbers.is_empty()),
+                    Some(held) => assert!(held.place == 0 && held.numbers.len() == first.count as usize),
+                    None => {
+                        let mut ahead = record.uncommitted.iter().take(at).filter(|other| other.first.is_multi());
+                        assert!(ahead.all(|other| other.first.coordinator == first.coordinator));
+                    }
+                }
+            }
+            let numbers: Vec<u32> = step.answers.iter().map(|answer| answer.number).collect();
+            assert!(numbers.windows(2).all(|pair| pair[0] < pair[1]) && numbers.len() <= 64);
+        });
+    }
+}

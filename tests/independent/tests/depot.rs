@@ -1,0 +1,140 @@
+//! The depot program's expected output: the same calls on the independent engine.
+
+use independent::event::*;
+use independent::layout::{call, lay_out, start, Words};
+use independent::Engine;
+
+type Case = (&'static str, &'static [(usize, u32)]);
+
+const UNSOUND: &[Case] = &[
+    ("a cell count above 4,096", &[(0, 4097)]),
+    ("17 uncommitted", &[(2, 17), (3, 0)]),
+    ("65 live", &[(3, 61)]),
+    ("counts that overflow", &[(2, 4294967295), (3, 4294967295)]),
+    ("nine fragments run", &[(1796, 9)]),
+    ("185 undo entries", &[(1799, 185)]),
+    ("a live number 0", &[(4, 0)]),
+    ("numbers not rising", &[(32, 3)]),
+    ("a number above the largest", &[(144, 13)]),
+    ("a stored fragment that 4 refuses: a flag", &[(117, 4)]),
+    ("a code", &[(120, 9)]),
+    ("an amount of a read", &[(122, 1)]),
+    ("a used unused place", &[(129, 1)]),
+    ("no operation", &[(119, 0)]),
+    ("a single with a coordinator", &[(34, 1)]),
+    ("a multi with none", &[(62, 0)]),
+    ("one that 5 refuses", &[(149, 4)]),
+    ("no fragment run", &[(1828, 0), (1831, 0)]),
+    ("one behind the front with two runs", &[(1828, 2)]),
+    ("a front that is a single", &[(5, 2), (6, 0)]),
+    ("a front that holds its answer", &[(1798, 1)]),
+    ("a single whose answer is not held", &[(1814, 0)]),
+    ("an unfinished one that is not the last", &[(1813, 0)]),
+    ("nine held numbers", &[(1817, 9)]),
+    ("a held place 9", &[(1848, 9)]),
+    ("an undo cell outside", &[(2062, 4)]),
+    ("17 entries of two fragments", &[(1799, 17)]),
+    ("nine entries of one", &[(1847, 9)]),
+    ("a state that stands for nothing", &[(1845, 3)]),
+    ("a reply that stands for nothing", &[(1846, 2)]),
+];
+
+const ODD: &[Case] = &[
+    ("nothing odd", &[]),
+    ("the largest is TOP", &[(1, 4294967295)]),
+    ("eight fragments run", &[(1796, 8)]),
+    ("no entries", &[(1799, 0), (1815, 0)]),
+    ("failed ones that own entries", &[(1813, 2), (1845, 2)]),
+    ("finished without a last fragment", &[(1845, 1)]),
+    ("nothing uncommitted, six wait", &[(2, 0), (3, 6)]),
+    ("three wait behind a finished one", &[(2, 3), (3, 3)]),
+    ("a held place and numbers", &[(1816, 8), (1817, 8)]),
+    ("a held answer with none", &[(1817, 0)]),
+    ("garbage behind the live ones and the runs", &[(172, 1), (1860, 4294967295)]),
+    ("garbage behind the entries", &[(2064, 4294967295), (2419, 1)]),
+    ("garbage in held numbers", &[(1820, 77), (1826, 4294967295)]),
+    ("garbage of an answer that was sent", &[(1800, 9), (1801, 9)]),
+];
+
+fn base() -> Words {
+    let mut cells = vec![5, 10, 0, 7];
+    let (_, mut engine) = Engine::start(4);
+    let events = [
+        Event::open(3, 1, &[(SET, 0, 1), (ADD, 1, 1), (READ, 0, 0)]),
+        Event::last(3, 1, &[(SET, 2, 4)]),
+        Event::single(5, &[(ADD, 0, 1), (READ, 1, 0)]),
+        Event::last(6, 1, &[(TAKE, 1, 1)]),
+        Event::open(8, 2, &[(RAISE, 3, 9)]),
+        Event::single(9, &[(READ, 0, 0)]),
+        Event::last(12, 7, &[(LOWER, 1, 3)]),
+    ];
+    for event in events {
+        assert_eq!(engine.call(&mut cells, &event, 1024).0, 0);
+    }
+    assert_eq!(cells, [2, 10, 4, 9]);
+    lay_out(&engine.record)
+}
+
+fn with(words: &Words, changes: &[(usize, u32)]) -> Words {
+    let mut words = *words;
+    changes.iter().for_each(|&(at, word)| words[at] = word);
+    words
+}
+
+/// The lines of one call.
+fn lines(
+    out: &mut String,
+    case: usize,
+    record: &Words,
+    cells: &mut [u32],
+    event: &[u32; EVENT_WORDS],
+    room: usize,
+) -> u32 {
+    let mut room = vec![0; room];
+    let (number, answers, _) = call(record, cells, event, &mut room);
+    out.push_str(&format!("e {case} {number}\n"));
+    for answer in room.chunks(16).take(answers as usize) {
+        let words: Vec<_> = answer[..4 + answer[3] as usize].iter().map(u32::to_string).collect();
+        out.push_str(&format!("a {}\n", words.join(" ")));
+    }
+    number
+}
+
+#[test]
+fn the_depot_program_prints_what_this_engine_says() {
+    let base = base();
+    let mut out = String::new();
+    for (i, (name, changes)) in UNSOUND.iter().enumerate() {
+        let abort = Event::abort(3).words();
+        assert_eq!(lines(&mut out, i + 1, &with(&base, changes), &mut [2, 10, 4, 9], &abort, 1024), 1, "{name}");
+    }
+    for (i, (name, changes)) in ODD.iter().enumerate() {
+        for event in [Event::commit(3), Event::abort(3)] {
+            let number = lines(&mut out, i + 1, &with(&base, changes), &mut [2, 10, 4, 9], &event.words(), 1024);
+            assert_ne!(number, 1, "{name}");
+        }
+    }
+    let mut unknown = [0; EVENT_WORDS];
+    unknown[0] = 9;
+    let (none, empty) = start(0);
+    let unsound = with(&base, &[(0, 4097)]);
+    let lent: [(&Words, usize, usize, u32); 8] = [
+        (&unsound, 3, 1023, 1),
+        (&base, 3, 1023, 2),
+        (&base, 3, 1024, 3),
+        (&base, 5, 1024, 3),
+        (&base, 0, 1024, 3),
+        (&empty, 0, 1024, 3),
+        (&empty, 4, 1024, 3),
+        (&base, 4, 1024, 4),
+    ];
+    for (i, (record, cells, room, number)) in lent.into_iter().enumerate() {
+        assert_eq!(lines(&mut out, i + 1, record, &mut vec![0; cells], &unknown, room), number);
+    }
+    out.push_str(&format!("e 9 {none}\ne 10 {}\n", start(4097).0));
+    let file = concat!(env!("CARGO_MANIFEST_DIR"), "/../../crates/depot/stdout");
+    if std::env::var_os("DEPOT_WRITE").is_some() {
+        std::fs::write(file, &out).expect("written");
+    }
+    assert_eq!(std::fs::read_to_string(file).expect("the program's expected output"), out);
+}
