@@ -27,6 +27,7 @@ pub fn all() -> Vec<Example> {
         example("depth16", &depot, depth16(), Fault::Depth17),
         example("live64", &depot, live64(), Fault::Live65),
         example("ninth-fragment", &depot, ninth_fragment(), Fault::None),
+        example("refusals", &depot, refusals(), Fault::CoordinatorBeforeFinished),
         example("error-undo-oldest-first", &depot, p3(), Fault::UndoOldestFirst),
         example("error-speculate-behind-unfinished", &[5], p1(), Fault::SpeculateBehindUnfinishedFront),
         example("error-requeue-reversed", &depot, requeue(), Fault::RequeueReversed),
@@ -83,6 +84,26 @@ fn ninth_fragment() -> Vec<Event> {
     let mut events = vec![Event::open(1, 1, &[(TAKE, 1, 1)]); 9];
     events.extend([Event::last(1, 1, &[(READ, 1, 0)]), Event::commit(1), Event::abort(1)]);
     events.push(Event::single(2, &[(READ, 1, 0)]));
+    events
+}
+
+/// Every refusal from 4 to 14, each of an event that a later row would refuse too where there is one.
+fn refusals() -> Vec<Event> {
+    let (read, outside, unknown) = ((READ, 0, 0), (READ, 2, 0), (9, 2, 0));
+    let mut events = vec![Event::single(2, &[read]), Event::open(4, 1, &[read]), Event::single(6, &[read])];
+    // 4 before 5, 5 before 6, 6 whatever comes, 7 of one that waits, 9, 12 of a new number, 13.
+    events.extend([Event::single(1, &[unknown]), Event::single(1, &[outside]), Event::last(1, 2, &[read])]);
+    events.extend([Event::commit(2), Event::last(6, 2, &[read]), Event::abort(6), Event::last(4, 2, &[read])]);
+    events.extend([Event::single(4, &[read]), Event::commit(7), Event::abort(7), Event::commit(4)]);
+    // Eight fragments and 64 live: 9 before 11, 10, 11.
+    events.extend(vec![Event::open(4, 1, &[read]); 7]);
+    events.extend((7..=68).map(|number| Event::single(number, &[read])));
+    events.extend([Event::open(4, 2, &[read]), Event::open(4, 1, &[outside]), Event::last(4, 1, &[read])]);
+    events.extend([Event::single(69, &[outside]), Event::single(69, &[read]), Event::commit(69), Event::commit(4)]);
+    // A finished front: 8 before 9. A failed one: 8, then 14, then an abort.
+    events.extend([Event::abort(4), Event::last(70, 1, &[read]), Event::last(70, 2, &[read])]);
+    events.extend([Event::commit(70), Event::open(71, 1, &[(TAKE, 0, 6)]), Event::open(71, 2, &[read])]);
+    events.extend([Event::commit(71), Event::abort(71), Event::abort(71)]);
     events
 }
 
