@@ -1,7 +1,7 @@
 -- A call put together: what a refusal and an accepted call leave is what the contract says.
-use Prim.Native.Nat.{ℕ, zero, suc, _+_, _*_, _≤_, _<_}
+use Prim.Native.Nat.{ℕ, zero, suc, _+_, _*_, _≤_}
 use native.Mathlib.Omega.{arith}
-use borrow.Author.Tests.{not-false, ltb-false, eq-eqb, ne-eqb, lt-ltb, le-ltb}
+use borrow.Author.Tests.{not-false, ltb-false, ne-eqb}
 use mathlib.Core.Path.{_≡_, refl, sym, ap, _∙_, subst}
 use mathlib.Core.Bool.{Bool, true, false, _||_}
 use mathlib.Core.List.{List, [], _∷_, _++_, map}
@@ -141,26 +141,21 @@ accepted-call r v cells room live live′ runs undo room′ cells′ c top z l h
 
 -- Starting
 
--- what starting returns: with 3 or with 0
-abbrev pub freshBy : Bool → ℕ → Fresh
-freshBy b n = record { number = pick b 3 0; next = record { count = pick b 0 n; largest = 0; uncommitted = 0; waiting = 0; live = zeros 1792; runs = zeros 256; undo = zeros 368 } }
+pub empty-packed : (n : ℕ) → _≡_ {A = Record} (record { count = n; largest = 0; uncommitted = 0; waiting = 0; live = zeros 1792; runs = zeros 256; undo = zeros 368 }) (pack (Refusals.empty n))
+unfolding pack padded allRows allRuns
+empty-packed n = refl
 
-fresh-by : (b : Bool) (n : ℕ) → (eqb n 0 || ltb mostCells n) ≡ b → freshBy b n ≡ freshOf n
-unfolding freshOf Refusals.start pack padded allRows allRuns
-fresh-by b n e = first b ∙ ap {B = Fresh} (λ (x : Bool). record { number = chosen x .number; next = pack (chosen x .engine) }) (sym e)
+-- refused or not, by the test of the count
+pub started-by : (b : Bool) (n : ℕ) (r : Record) → (eqb n 0 || ltb mostCells n) ≡ b → r ≡ pack (Refusals.empty (pick b 0 n)) → record { number = pick b 3 0; next = r } ≡ freshOf n
+unfolding freshOf Refusals.start
+started-by b n r e er = first b er ∙ ap {B = Fresh} (λ (x : Bool). record { number = chosen x .number; next = pack (chosen x .engine) }) (sym e)
   where
     chosen : Bool → Refusals.Started
     chosen x = pick x (record { number = 3; engine = Refusals.empty 0 }) (record { number = 0; engine = Refusals.empty n })
 
-    first : (x : Bool) → freshBy x n ≡ record { number = chosen x .number; next = pack (chosen x .engine) }
-    first true = refl
-    first false = refl
+    first : (x : Bool) → r ≡ pack (Refusals.empty (pick x 0 n)) → _≡_ {A = Fresh} (record { number = pick x 3 0; next = r }) (record { number = chosen x .number; next = pack (chosen x .engine) })
+    first true er = λ j. record { number = 3; next = er j }
+    first false er = λ j. record { number = 0; next = er j }
 
-pub start-none : (n : ℕ) → n ≡ 0 → freshBy true n ≡ freshOf n
-start-none n e = fresh-by true n (ap (λ (b : Bool). b || ltb mostCells n) (eq-eqb n 0 e))
-
-pub start-many : (n : ℕ) → (n ≡ 0 → ⊥) → mostCells < n → freshBy true n ≡ freshOf n
-start-many n e h = fresh-by true n (ap (λ (b : Bool). b || ltb mostCells n) (ne-eqb n 0 e) ∙ lt-ltb mostCells n h)
-
-pub start-some : (n : ℕ) → (n ≡ 0 → ⊥) → n ≤ mostCells → freshBy false n ≡ freshOf n
-start-some n e h = fresh-by false n (ap (λ (b : Bool). b || ltb mostCells n) (ne-eqb n 0 e) ∙ le-ltb mostCells n h)
+pub none-or-many : (n : ℕ) (b : Bool) → (n ≡ 0 → ⊥) → ltb mostCells n ≡ b → (eqb n 0 || ltb mostCells n) ≡ b
+none-or-many n b e h = ap (λ (x : Bool). x || ltb mostCells n) (ne-eqb n 0 e) ∙ h

@@ -6,7 +6,8 @@ ghost use lib.ListN.{length};
 ghost use lib.Seq.{sets};
 ghost use Rattle.model.specs.Transactions.{Engine};
 ghost use Rattle.model.specs.Refusals.{refusal, request, taken};
-ghost use Rattle.record.specs.Words.{rowWords};
+ghost use Rattle.model.specs.Refusals as Refusals;
+ghost use Rattle.record.specs.Words.{rowWords, pack};
 ghost use Rattle.record.specs.View.{viewOf};
 ghost use Rattle.refusals.specs.Rest.{callOf};
 ghost use Rattle.engine.specs.Work.{Left, waitingMore};
@@ -231,51 +232,33 @@ pub fn call(r: Record, cells: &mut [u32], event: Event, room: &mut [u32]) -> Cal
     }
 }
 
+// A record of so many cells with nothing live.
+pub(crate) fn empty(count: u32) -> Record
+    ensures { λ r. ⌜ r ≡ pack (Refusals.empty count) ⌝ }
+{
+    Record {
+        count: count,
+        largest: 0,
+        uncommitted: 0,
+        waiting: 0,
+        live: [0u32; 1792],
+        runs: [0u32; 256],
+        undo: [0u32; 368],
+    }
+}
+
 // "Starting with 0 or above 4,096 cells returns 3 and a record with 0 cells".
 pub fn start(count: u32) -> Fresh
     ensures { λ r. ⌜ r ≡ freshOf count ⌝ }
 {
-    let live = [0u32; 1792];
-    let runs = [0u32; 256];
-    let undo = [0u32; 368];
-    if count == 0 {
+    if count == 0 || model::MOST_CELLS < count {
         return Fresh {
             number: 3,
-            next: Record {
-                count: 0,
-                largest: 0,
-                uncommitted: 0,
-                waiting: 0,
-                live: live,
-                runs: runs,
-                undo: undo,
-            },
-        };
-    }
-    if model::MOST_CELLS < count {
-        return Fresh {
-            number: 3,
-            next: Record {
-                count: 0,
-                largest: 0,
-                uncommitted: 0,
-                waiting: 0,
-                live: live,
-                runs: runs,
-                undo: undo,
-            },
+            next: empty(0),
         };
     }
     Fresh {
         number: 0,
-        next: Record {
-            count: count,
-            largest: 0,
-            uncommitted: 0,
-            waiting: 0,
-            live: live,
-            runs: runs,
-            undo: undo,
-        },
+        next: empty(count),
     }
 }

@@ -5,7 +5,7 @@ use mathlib.Core.List.{List, [], _∷_, _++_, map}
 use lib.Dec.{ltb, eqb}
 use lib.ListN.{length, set}
 use Rattle.model.specs.Limits.{depth}
-use Rattle.model.specs.Operations.{Cells, Outcome, content, operate, put, writes, multi, last, operations}
+use Rattle.model.specs.Operations.{Cells, Outcome, content, operate, put, writes, multi, last, operations, tells}
 use Rattle.model.specs.Transactions.{State, Running, Finished, Failed, NoState, finished, Reply, Held, Sent, NoReply, Uncommitted, Waiting, Answer, answer, undoList}
 use Rattle.model.specs.declared.Op.{Op}
 use Rattle.model.specs.declared.Fragment.{Fragment}
@@ -34,8 +34,8 @@ unfoldable pub runFrom : ℕ → List Op → Cells → List ℕ → List Undo �
 runFrom p [] cs ns us = record { cells = cs; outcome = record { place = 0; numbers = ns }; undo = us }
 runFrom p (o ∷ os) cs ns us =
     elim (operate o cs) [
-      | Number y ↦ runFrom (suc p) os (put o y cs) (ns ++ (y ∷ [])) (noted o cs us)
-      | Fails ↦ record { cells = undone us cs; outcome = record { place = p; numbers = [] }; undo = [] }
+      | Number y ↦ runFrom (suc p) os (put o y cs) (ns ++ tells p (Number y) .numbers) (noted o cs us)
+      | Fails ↦ record { cells = undone us cs; outcome = tells p Fails; undo = [] }
     ]
 
 -- run a fragment of a transaction that owns the entries us

@@ -155,6 +155,19 @@ shift-turn row₀ row row′ k i w inv ew er =
     ∙ sym (sets-snoc row₀ 0 (numbersFrom row₀ k i) (getD row₀ (k + i) 0))
     ∙ ap (sets row₀ 0) (sym (numbers-snoc row₀ k i)) ∙ ap (λ (x : ℕ). sets row₀ 0 (numbersFrom row₀ k x)) (sym (add-one i))
 
+set-own : (l : List ℕ) (i : ℕ) → set l i (getD l i 0) ≡ l
+set-own [] i = refl
+set-own (x ∷ l) zero = refl
+set-own (x ∷ l) (suc i) = ap (λ (y : List ℕ). x ∷ y) (set-own l i)
+
+-- shifting by nothing
+pub shift-none : (row : List ℕ) (m : ℕ) → row ≡ sets row 0 (numbersFrom row 0 m)
+unfolding numbersFrom
+shift-none row zero = refl
+shift-none row (suc m) =
+    shift-turn row row row 0 m (getD row m 0) (shift-none row m) (let z : m ≡ 0 + m = omega arith in ap (λ (x : ℕ). getD row x 0) z) (sym (set-own row m))
+    ∙ ap (λ (x : ℕ). sets row 0 (numbersFrom row 0 x)) (add-one m)
+
 -- the front g of a padded row shifted out
 pub shift-padded : (n : ℕ) (g l : List ℕ) (k m : ℕ) → length g ≡ k → length (g ++ l) ≡ m → m ≤ n → sets (padded n (g ++ l)) 0 (numbersFrom (padded n (g ++ l)) k m) ≡ padded n l
 shift-padded n g l k m e em h =

@@ -123,6 +123,10 @@ pub fn lay(row: &mut [u32], at: u32, words: &[u32], n: u32)
 pub fn shift(row: &mut [u32], k: u32, m: u32)
     ensures { λ _. ⌜ now (row .exit) ≡ sets (now (row .entry)) 0 (numbersFrom (now (row .entry)) k m) ⌝ }
 {
+    // most calls move nothing
+    if k == 0 {
+        return;
+    }
     let mut i: usize = 0;
     while i < m as usize {
         let w = operations::number_at(row, k as usize + i);

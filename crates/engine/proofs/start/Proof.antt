@@ -1,21 +1,38 @@
+use mathlib.Core.Path.{_≡_, ap}
+use mathlib.Core.Bool.{Bool, true, false, _||_}
+use mathlib.Core.Logic.{inl, inr}
+use borrow.Author.Tests.{eq-eqb}
+use lib.Dec.{eqb, ltb}
+use Rattle.model.specs.Limits.{mostCells}
+use Rattle.engine.proofs.Calling.{started-by, none-or-many}
 use borrow.Author.Needs.{needs}
-use Rattle.engine.proofs.Calling.{start-none, start-many, start-some}
 use Rattle.engine.proofs.start.Statement.{statement}
 use Rattle.engine.proofs.start.Tie as tie
 use Rattle.engine.proofs.start.Reads as reads
 use Rattle.engine.proofs.start.Lts as lts
+use Rattle.engine.proofs.empty.Reads as empty-reads
 
--- src/lib.rt:182:9
+-- src/lib.rt:257:19
+empty-requires : tie.Need-empty-requires
+empty-requires c κs = search needs
+
+-- src/lib.rt:255:9
 returns : tie.Need-returns
-returns c = start-none (c .before .args .count) (c .if1 .taken)
+returns c = let n = c .before .before .args .count in
+    started-by true n (c .empty .result)
+    (elim (c .before .if1 .came) as (λ _. (eqb n 0 || ltb mostCells n) ≡ true) [
+      | inl t ↦ ap (λ (b : Bool). b || ltb mostCells n) (eq-eqb n 0 (t .taken))
+      | inr t ↦ none-or-many n true (t .0 .left) (t .1 .taken)
+    ]) (c .empty .ensures)
 
--- src/lib.rt:188:9
+-- src/lib.rt:262:15
+empty-requires-2 : tie.Need-empty-requires-2
+empty-requires-2 c κs = search needs
+
+-- src/lib.rt:251:1
 returns-2 : tie.Need-returns-2
-returns-2 c = start-many (c .before .before .args .count) (c .before .if1 .left) (c .if2 .taken)
-
--- src/lib.rt:175:1
-returns-3 : tie.Need-returns-3
-returns-3 c = start-some (c .before .before .args .count) (c .before .if1 .left) (c .if2 .left)
+returns-2 c = let n = c .before .before .before .args .count in
+    started-by false n (c .empty2 .result) (none-or-many n false (c .before .before .if1 .left) (c .before .if2 .left)) (c .empty2 .ensures)
 
 pub start-spec : {M : Type 1} → statement M
-start-spec = tie.close (tie.spec returns returns-2 returns-3)
+start-spec = tie.close (tie.spec empty-requires returns empty-requires-2 returns-2)
