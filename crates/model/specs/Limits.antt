@@ -36,3 +36,7 @@ mostEntries = 184
 -- "answer room under 1,024 numbers"
 abbrev pub leastRoom : ℕ
 leastRoom = 1024
+
+-- "29 words an event"
+abbrev pub eventWords : ℕ
+eventWords = 29

@@ -20,6 +20,8 @@ pub const MOST_ENTRIES: u32 = 184;
 pub const LEAST_ROOM: usize = 1024;
 // "An answer is 16 numbers of 32 bits"
 pub const ANSWER_WORDS: usize = 16;
+// "29 words an event"
+pub const EVENT_WORDS: u32 = 29;
 
 // "An operation has a code, a cell and an amount v of 0 to TOP."
 pub struct Op {

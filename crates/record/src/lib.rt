@@ -12,6 +12,7 @@ use model::Op;
 // "cell count, largest number accepted, uncommitted queue (at most 16), waiting queue, undo list": the live transactions stand in one row in
 // number order, 28 words each, the uncommitted ones first; beside each of those a run of 16 words; the undo entries of all of them in queue
 // order, oldest first, 2 words each. Any words are a record: which of them are sound is asked by each call.
+#[repr(C)]
 pub struct Record {
     pub count: u32,
     pub largest: u32,

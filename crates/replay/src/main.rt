@@ -118,7 +118,7 @@ fn play(
     let mut record = start;
     let mut i: u32 = 0;
     while i < events {
-        let event = trace::event_at(bytes, first + 29 * i);
+        let event = trace::event_at(bytes, first + model::EVENT_WORDS * i);
         let done = engine::call(record, cells, event, room);
         if !print_event(line, i + 1, done.number, done.answers, room) {
             return false;

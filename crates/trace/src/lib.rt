@@ -65,7 +65,7 @@ pub fn shape_of(bytes: &[u8]) -> Shape
     if first != 4 + cells {
         return Shape::Bad;
     }
-    let words = 4 + cells + 29 * events;
+    let words = 4 + cells + model::EVENT_WORDS * events;
     if bytes.len() != 4 * (words as usize) {
         return Shape::Bad;
     }

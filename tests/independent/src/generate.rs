@@ -38,7 +38,7 @@ impl Random {
         from[self.below(from.len())]
     }
 
-    fn weighted(&mut self, weights: &[usize]) -> usize {
+    pub fn weighted(&mut self, weights: &[usize]) -> usize {
         let mut left = self.below(weights.iter().sum());
         for (at, &weight) in weights.iter().enumerate() {
             if left < weight {

@@ -9,6 +9,7 @@
 
 use crate::engine::{Engine, Outcome, Record, State, Uncommitted, ANSWER_WORDS, DEPTH, MOST_LIVE};
 use crate::event::{Event, Fragment, EVENT_WORDS, FRAGMENT_WORDS, PLACES};
+use std::collections::VecDeque;
 
 pub const RUN_WORDS: usize = 16;
 pub const UNDO_ENTRIES: usize = 184;
@@ -27,22 +28,50 @@ pub fn start(cells: u32) -> (u32, Words) {
 
 /// One call: the returned number, how many answers fill `room` from its start, and the next record.
 pub fn call(words: &Words, cells: &mut [u32], event: &[u32; EVENT_WORDS], room: &mut [u32]) -> (u32, u32, Words) {
-    let Some(record) = read(words) else { return (1, 0, *words) };
-    let mut engine = Engine::of(record);
-    let (number, answers) = engine.call(cells, &Event::read(event), room.len());
+    let mut next = *words;
+    let (number, answers) = call_in_place(&mut next, cells, event, room);
+    (number, answers, next)
+}
+
+/// One call on words of any content and areas of any length: the returned number and the count of answers.
+pub fn call_in_place(words: &mut Words, cells: &mut [u32], event: &[u32], room: &mut [u32]) -> (u32, u32) {
+    match read(words) {
+        Some(record) => call_on(&mut Engine::of(record), words, cells, event, room),
+        None => (1, 0),
+    }
+}
+
+/// One call of an engine, a wrong one too, whose record the words stand for.
+pub fn call_on(
+    engine: &mut Engine,
+    words: &mut Words,
+    cells: &mut [u32],
+    event: &[u32],
+    room: &mut [u32],
+) -> (u32, u32) {
+    // What is no event of 29 words is not well formed, as 29 zeros are not.
+    let event = if event.len() == EVENT_WORDS { Event::read(event) } else { Event::default() };
+    let (number, answers) = engine.call(cells, &event, room.len());
     if number != 0 {
         // Laying out would clear garbage in unused places.
-        return (number, 0, *words);
+        return (number, 0);
     }
     for (place, answer) in room.chunks_exact_mut(ANSWER_WORDS).zip(&answers) {
         place.copy_from_slice(&answer.words());
     }
-    (0, answers.len() as u32, lay_out(&engine.record))
+    lay_out_in(&engine.record, words);
+    (0, answers.len() as u32)
 }
 
 /// Lays out a sound record. Every unused place is zero, a sent answer's held words too.
 pub fn lay_out(record: &Record) -> Words {
     let mut words = [0; WORDS];
+    lay_out_in(record, &mut words);
+    words
+}
+
+fn lay_out_in(record: &Record, words: &mut Words) {
+    words.fill(0);
     let counts = [record.uncommitted.len() as u32, record.waiting.len() as u32];
     words[..4].copy_from_slice(&[record.cells, record.largest, counts[0], counts[1]]);
     for (row, stored) in words[LIVE..RUNS].chunks_exact_mut(FRAGMENT_WORDS).zip(record.live()) {
@@ -64,7 +93,6 @@ pub fn lay_out(record: &Record) -> Words {
     for (pair, &(cell, old)) in words[UNDO..].chunks_exact_mut(2).zip(entries) {
         pair.copy_from_slice(&[cell, old]);
     }
-    words
 }
 
 /// The record that the words stand for, or nothing where they stand for none, which is unsound too.
@@ -97,6 +125,9 @@ pub fn read(words: &Words) -> Option<Record> {
         let undo = own.chunks_exact(2).map(|pair| (pair[0], pair[1])).collect();
         Some(Uncommitted { first, fragments_run: run[0], state, held, undo })
     };
-    let uncommitted = (0..uncommitted).map(|_| read_one()).collect::<Option<_>>()?;
-    Some(Record { cells, largest, uncommitted, waiting: live.take(waiting).collect() })
+    let mut all = VecDeque::with_capacity(uncommitted + 1);
+    for _ in 0..uncommitted {
+        all.push_back(read_one()?);
+    }
+    Some(Record { cells, largest, uncommitted: all, waiting: live.take(waiting).collect() })
 }

@@ -2,7 +2,7 @@
 
 use independent::event::*;
 use independent::generate::{self, Random};
-use independent::layout::{call, lay_out, read, start, Words, LIVE, RUNS, RUN_WORDS, UNDO, WORDS};
+use independent::layout::{call, call_in_place, lay_out, read, start, Words, LIVE, RUNS, RUN_WORDS, UNDO, WORDS};
 use independent::{trace, Engine};
 
 const CELLS: u32 = 0;
@@ -309,6 +309,27 @@ fn starting() {
     // Of 0 cells and not empty: its cells are outside.
     assert_eq!(call(&with(&waiting_only(1), &[(CELLS, 0)]), &mut [], &event, &mut []).0, 1);
     assert_eq!(call(&with(&none, &[(LARGEST, 9)]), &mut [], &event, &mut []).0, 2);
+}
+
+/// An event of another length is not well formed, which is asked after 1, 2 and 3.
+#[test]
+fn events_of_other_lengths() {
+    let (words, cells) = base();
+    let event = [Event::commit(3).words(), [0; EVENT_WORDS]].concat();
+    let lend = |words: &Words, lent: usize, length: usize, room: usize| {
+        let (mut next, mut cells, mut lent_room) = (*words, cells[..lent].to_vec(), vec![UNTOUCHED; room]);
+        let (number, answers) = call_in_place(&mut next, &mut cells, &event[..length], &mut lent_room);
+        let untouched = next == *words && answers == 0 && lent_room.iter().all(|&word| word == UNTOUCHED);
+        assert!(untouched == (number != 0));
+        number
+    };
+    assert_eq!(lend(&words, 4, 29, ROOM), 0);
+    for length in [0, 1, 28, 30, 58] {
+        assert_eq!(lend(&words, 4, length, ROOM), 4);
+        assert_eq!(lend(&words, 3, length, ROOM), 3);
+        assert_eq!(lend(&words, 3, length, ROOM - 1), 2);
+        assert_eq!(lend(&with(&words, &[(CELLS, 4097)]), 3, length, ROOM - 1), 1);
+    }
 }
 
 #[test]

@@ -1,0 +1,38 @@
+-- The event that words stand for: from its parts, and refused where it is not 29 words.
+use Prim.Native.Nat.{ℕ}
+use mathlib.Core.Bool.{Bool, true, false, not, _&&_, _||_, true≢false}
+use mathlib.Core.Path.{_≡_, ap, sym, subst, _∙_}
+use mathlib.Core.List.{List}
+use lib.Dec.{leb, eqb}
+use lib.ListN.{length, getD}
+use Rattle.model.specs.Limits.{eventWords}
+use Rattle.model.specs.Operations.{Cells, pick}
+use Rattle.model.specs.Refusals.{formed, blank}
+use Rattle.model.specs.declared.Event.{Event}
+use Rattle.model.specs.declared.Fragment.{Fragment}
+use Rattle.model.proofs.Passing.{passed, took}
+use Rattle.refusals.specs.Rest.{callOf}
+use Rattle.record.specs.declared.Record.{Record}
+use Rattle.record.specs.View.{view, fragmentAt}
+use Rattle.engine.specs.Called.{called, stepped}
+use Rattle.boundary.specs.Words.{eventOf}
+
+kind-by : (b : Bool) (l : List ℕ) → eqb (length l) eventWords ≡ b → pick b (getD l 0 0) 0 ≡ pick (eqb (length l) eventWords) (getD l 0 0) 0
+kind-by b l t = ap (λ (c : Bool). pick c (getD l 0 0) 0) (sym t)
+
+pub event-by : (b : Bool) (l : List ℕ) (k n : ℕ) (f : Fragment) → eqb (length l) eventWords ≡ b → k ≡ pick b (getD l 0 0) 0 → n ≡ getD l 1 0 → f ≡ fragmentAt l 1 → record { kind = k; number = n; fragment = f } ≡ eventOf l
+unfolding eventOf
+event-by b l k n f t ke ne fe i = record { kind = (ke ∙ kind-by b l t) i; number = ne i; fragment = fe i }
+
+-- an event of kind 0 is not well formed
+nothing-asked : (b : Bool) → not (b && false) ≡ false → ⊥
+nothing-asked true h = true≢false h
+nothing-asked false h = true≢false h
+
+-- "not well formed": an event of another length than 29 words is never accepted
+pub other-length : (r : Record) (l : List ℕ) (cells : Cells) (room : List ℕ) → eqb (length l) eventWords ≡ false → called r (eventOf l) cells room .number ≡ 0 → ⊥
+unfolding called stepped eventOf
+other-length r l cells room t h =
+    let p = passed (view r) (callOf (eventOf l) cells room) (took (view r) (callOf (eventOf l) cells room) h) in
+    nothing-asked (leb 1 (getD l 1 0))
+    (subst (λ (k : ℕ). not (leb 1 (getD l 1 0) && (eqb k 1 && formed (fragmentAt l 1) || (eqb k 2 || eqb k 3) && blank (fragmentAt l 1))) ≡ false) (sym (kind-by false l t)) (p .four))

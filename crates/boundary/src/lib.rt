@@ -1,0 +1,105 @@
+// The library for C and Rust: the engine over a lent record, lent cells, the words of an event and a lent answer room. What crosses is numbers,
+// slices and references, nothing by value; whatever the words hold, each function ends and has said what it did.
+ghost use mathlib.Core.Path.{_≡_};
+ghost use Rattle.model.specs.Limits.{mostCells, leastRoom, eventWords};
+ghost use Rattle.boundary.specs.Words.{eventOf, answerWords, recordBytes};
+ghost use Rattle.boundary.specs.Lent.{started, told, answered};
+use engine::Called;
+use model::Event;
+use record::Record;
+
+// The event that words stand for: 29 of them, or one that is not well formed.
+pub fn event_of(words: &[u32]) -> Event
+    ensures { λ r. ⌜ r ≡ eventOf (now (words .entry)) ⌝ }
+{
+    let fragment = record::fragment_at(words, 1);
+    let number = operations::number_at(words, 1);
+    if words.len() != model::EVENT_WORDS as usize {
+        return Event {
+            kind: 0,
+            number: number,
+            fragment: fragment,
+        };
+    }
+    Event {
+        kind: operations::number_at(words, 0),
+        number: number,
+        fragment: fragment,
+    }
+}
+
+// A call with the record by value and the event in words.
+pub fn turn(r: Record, cells: &mut [u32], event: &[u32], room: &mut [u32]) -> Called
+    ensures { λ d. ⌜ answered r (eventOf (now (event .entry))) (now (cells .entry)) (now (room .entry)) d (now (cells .exit)) (now (room .exit)) ⌝ }
+{
+    let v = event_of(event);
+    engine::call(r, cells, v, room)
+}
+
+// Starts a record of so many cells, whatever it held.
+#[no_mangle]
+pub extern "C" fn harukdalis_start(r: &mut Record, cells: u32) -> u32
+    ensures { λ n. ⌜ started cells n (now (r .exit)) ⌝ }
+{
+    let f = engine::start(cells);
+    *r = f.next;
+    f.number
+}
+
+// One call on a lent record.
+#[no_mangle]
+pub extern "C" fn harukdalis_call(
+    r: &mut Record,
+    cells: &mut [u32],
+    event: &[u32],
+    room: &mut [u32],
+    answers: &mut u32,
+) -> u32
+    ensures { λ n. ⌜ answered (now (r .entry)) (eventOf (now (event .entry))) (now (cells .entry)) (now (room .entry)) (told n (now (answers .exit)) (now (r .exit))) (now (cells .exit)) (now (room .exit)) ⌝ }
+{
+    let s = *r;
+    let d = turn(s, cells, event, room);
+    *r = d.next;
+    *answers = d.answers;
+    d.number
+}
+
+// The size of the record in bytes.
+#[no_mangle]
+pub extern "C" fn harukdalis_record_bytes() -> u32
+    ensures { λ n. ⌜ n ≡ recordBytes ⌝ }
+{
+    9680
+}
+
+// The words of an event.
+#[no_mangle]
+pub extern "C" fn harukdalis_event_words() -> u32
+    ensures { λ n. ⌜ n ≡ eventWords ⌝ }
+{
+    model::EVENT_WORDS
+}
+
+// The words of an answer.
+#[no_mangle]
+pub extern "C" fn harukdalis_answer_words() -> u32
+    ensures { λ n. ⌜ n ≡ answerWords ⌝ }
+{
+    model::ANSWER_WORDS as u32
+}
+
+// The least answer room, in words.
+#[no_mangle]
+pub extern "C" fn harukdalis_least_room() -> u32
+    ensures { λ n. ⌜ n ≡ leastRoom ⌝ }
+{
+    model::LEAST_ROOM as u32
+}
+
+// The most cells of a partition.
+#[no_mangle]
+pub extern "C" fn harukdalis_most_cells() -> u32
+    ensures { λ n. ⌜ n ≡ mostCells ⌝ }
+{
+    model::MOST_CELLS
+}

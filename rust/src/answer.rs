@@ -1,0 +1,97 @@
+//! Answers, as a call leaves them in the room.
+
+use crate::{ANSWER_WORDS, MOST_OPERATIONS};
+use std::iter::FusedIterator;
+use std::slice::ChunksExact;
+
+// Places of an answer's words.
+const TRANSACTION: usize = 0;
+const DEPENDENCE: usize = 1;
+const PLACE: usize = 2;
+const COUNT: usize = 3;
+const NUMBERS: usize = 4;
+
+/// The answer to a fragment.
+#[derive(Clone, Copy, Debug, PartialEq, Eq, Hash)]
+pub struct Answer {
+    words: [u32; ANSWER_WORDS],
+}
+
+/// What an answer tells.
+#[derive(Clone, Copy, Debug, PartialEq, Eq, Hash)]
+pub enum Outcome<'a> {
+    /// The transaction failed: this operation, 1 to 8, could not be done, and all that it changed is taken back.
+    Failed {
+        /// The place of the operation in its fragment, from 1.
+        place: u32,
+    },
+    /// A number for each operation of the fragment, the cell's content after it.
+    Numbers(&'a [u32]),
+}
+
+impl Answer {
+    /// The answer that these words are.
+    pub const fn from_words(words: [u32; ANSWER_WORDS]) -> Answer {
+        Answer { words }
+    }
+
+    /// Its words, as they stood in the room.
+    pub const fn words(&self) -> [u32; ANSWER_WORDS] {
+        self.words
+    }
+
+    /// The transaction that is answered.
+    pub const fn transaction(&self) -> u32 {
+        self.words[TRANSACTION]
+    }
+
+    /// The transaction that must commit for this answer to hold, if there is one. Until it has, the answer is for the
+    /// coordinator alone; once it is aborted, the answer is void and comes again.
+    pub const fn dependence(&self) -> Option<u32> {
+        match self.words[DEPENDENCE] {
+            0 => None,
+            number => Some(number),
+        }
+    }
+
+    /// What it tells: where the transaction failed, or its numbers.
+    pub fn outcome(&self) -> Outcome<'_> {
+        match self.words[PLACE] {
+            0 => Outcome::Numbers(&self.words[NUMBERS..NUMBERS + MOST_OPERATIONS.min(self.words[COUNT] as usize)]),
+            place => Outcome::Failed { place },
+        }
+    }
+}
+
+/// The answers of one call, in the order in which they stand: rising numbers, none twice.
+#[derive(Clone, Debug)]
+pub struct Answers<'r> {
+    rows: ChunksExact<'r, u32>,
+}
+
+impl<'r> Answers<'r> {
+    /// The first `count` answers of a room, as [`crate::Engine::call_words`] left them there; fewer where the room has
+    /// fewer.
+    pub fn in_room(room: &'r [u32], count: usize) -> Answers<'r> {
+        let words = room.len().min(count.saturating_mul(ANSWER_WORDS));
+        Answers { rows: room[..words].chunks_exact(ANSWER_WORDS) }
+    }
+}
+
+impl Iterator for Answers<'_> {
+    type Item = Answer;
+
+    fn next(&mut self) -> Option<Answer> {
+        let mut words = [0; ANSWER_WORDS];
+        words.copy_from_slice(self.rows.next()?);
+        Some(Answer { words })
+    }
+
+    fn size_hint(&self) -> (usize, Option<usize>) {
+        self.rows.size_hint()
+    }
+}
+
+impl ExactSizeIterator for Answers<'_> {}
+
+impl FusedIterator for Answers<'_> {}

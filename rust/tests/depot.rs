@@ -1,0 +1,177 @@
+//! Cases of document 01 through the wrapper: what a shelf and its answers do.
+
+use harukdalis::{Engine, Event, Op, Outcome, Record, Refusal, Room, DEPTH, TOP};
+
+/// An answer as transaction, dependence (0 for none), place (0 for none), numbers.
+type Told = (u32, u32, u32, Vec<u32>);
+
+struct Depot {
+    engine: Engine,
+    cells: Vec<u32>,
+    room: Room,
+}
+
+fn depot(cells: &[u32]) -> Depot {
+    Depot { engine: Engine::start(cells.len() as u32).unwrap(), cells: cells.to_vec(), room: Room::new() }
+}
+
+impl Depot {
+    fn call(&mut self, event: Event) -> Result<Vec<Told>, Refusal> {
+        let answers = self.engine.call(&mut self.cells, &event, &mut self.room)?;
+        let told = |outcome: Outcome<'_>| match outcome {
+            Outcome::Failed { place } => (place, vec![]),
+            Outcome::Numbers(numbers) => (0, numbers.to_vec()),
+        };
+        let length = answers.len();
+        let answers: Vec<_> = answers
+            .map(|answer| {
+                let (place, numbers) = told(answer.outcome());
+                (answer.transaction(), answer.dependence().unwrap_or(0), place, numbers)
+            })
+            .collect();
+        assert_eq!(length, answers.len());
+        Ok(answers)
+    }
+}
+
+fn one(transaction: u32, dependence: u32, numbers: &[u32]) -> Result<Vec<Told>, Refusal> {
+    Ok(vec![(transaction, dependence, 0, numbers.to_vec())])
+}
+
+fn failed(transaction: u32, place: u32) -> Result<Vec<Told>, Refusal> {
+    Ok(vec![(transaction, 0, place, vec![])])
+}
+
+const NONE: Result<Vec<Told>, Refusal> = Ok(vec![]);
+
+/// P1 and P2 up to their last event.
+fn swap() -> Depot {
+    let mut depot = depot(&[5]);
+    assert_eq!(depot.call(Event::multi(1, 1, false, &[Op::read(0)])), one(1, 0, &[5]));
+    assert_eq!(depot.call(Event::single(2, &[Op::add(0, 1)])), NONE);
+    assert_eq!(depot.call(Event::single(3, &[Op::add(0, 1)])), NONE);
+    assert_eq!(depot.cells, [5], "nothing runs behind an unfinished front");
+    assert_eq!(depot.call(Event::multi(1, 1, true, &[Op::set(0, 17)])), one(1, 0, &[17]));
+    depot
+}
+
+#[test]
+fn p1_singles_are_answered_when_the_front_commits() {
+    let mut depot = swap();
+    assert_eq!(depot.call(Event::commit(1)), Ok(vec![(2, 0, 0, vec![18]), (3, 0, 0, vec![19])]));
+    assert_eq!(depot.cells, [19]);
+}
+
+#[test]
+fn p2_singles_run_again_when_the_front_is_aborted() {
+    let mut depot = swap();
+    assert_eq!(depot.call(Event::abort(1)), Ok(vec![(2, 0, 0, vec![6]), (3, 0, 0, vec![7])]));
+    assert_eq!(depot.cells, [7]);
+}
+
+#[test]
+fn p3_two_takes_of_a_shelf_are_put_back() {
+    let mut depot = depot(&[5, 10]);
+    assert_eq!(depot.call(Event::multi(1, 1, true, &[Op::take(1, 1), Op::take(1, 1)])), one(1, 0, &[9, 8]));
+    assert_eq!(depot.cells, [5, 8]);
+    assert_eq!(depot.call(Event::abort(1)), NONE);
+    assert_eq!(depot.cells, [5, 10]);
+}
+
+#[test]
+fn p4_p5_a_shelf_gives_what_it_has_and_no_more() {
+    let mut few = depot(&[5, 10]);
+    assert_eq!(few.call(Event::single(1, &[Op::take(1, 10)])), one(1, 0, &[0]));
+    let mut many = depot(&[5, 10]);
+    assert_eq!(many.call(Event::single(1, &[Op::take(1, 11)])), failed(1, 1));
+    assert_eq!(many.cells, [5, 10]);
+}
+
+#[test]
+fn p6_a_full_shelf_takes_nothing_more() {
+    let mut depot = depot(&[TOP]);
+    assert_eq!(depot.call(Event::single(1, &[Op::add(0, 0)])), one(1, 0, &[TOP]));
+    assert_eq!(depot.call(Event::single(2, &[Op::add(0, 1)])), failed(2, 1));
+}
+
+#[test]
+fn p7_p8_a_dependence_on_the_multi_ahead() {
+    let mut depot = depot(&[5, 10]);
+    assert_eq!(depot.call(Event::multi(1, 1, true, &[Op::set(0, 17)])), one(1, 0, &[17]));
+    assert_eq!(depot.call(Event::single(2, &[Op::add(0, 1)])), NONE);
+    assert_eq!(depot.call(Event::multi(3, 1, true, &[Op::add(0, 1)])), one(3, 1, &[19]));
+    assert_eq!(depot.call(Event::multi(4, 2, true, &[Op::read(0)])), NONE, "another coordinator's is held");
+    assert_eq!(depot.call(Event::commit(3)), Err(Refusal::NotFront));
+    assert_eq!(depot.call(Event::commit(1)), one(2, 0, &[18]), "3 is not answered again");
+    assert_eq!(depot.call(Event::commit(3)), one(4, 0, &[19]));
+}
+
+#[test]
+fn a_dependent_answer_comes_again_after_an_abort() {
+    let mut depot = depot(&[5, 10]);
+    assert_eq!(depot.call(Event::multi(1, 1, true, &[Op::set(0, 17)])), one(1, 0, &[17]));
+    assert_eq!(depot.call(Event::multi(3, 1, true, &[Op::add(0, 1)])), one(3, 1, &[18]));
+    assert_eq!(depot.call(Event::multi(5, 1, true, &[Op::add(0, 1)])), one(5, 3, &[19]));
+    assert_eq!(depot.call(Event::abort(1)), Ok(vec![(3, 0, 0, vec![6]), (5, 3, 0, vec![7])]));
+}
+
+#[test]
+fn p9_an_unfinished_or_failed_front_is_not_committed() {
+    let mut depot = depot(&[5, 10]);
+    assert_eq!(depot.call(Event::multi(1, 1, false, &[Op::read(0)])), one(1, 0, &[5]));
+    assert_eq!(depot.call(Event::commit(1)), Err(Refusal::NotFinished));
+    assert_eq!(depot.call(Event::multi(1, 1, true, &[Op::add(0, 1), Op::take(1, 11)])), failed(1, 2));
+    assert_eq!(depot.cells, [5, 10]);
+    assert_eq!(depot.call(Event::commit(1)), Err(Refusal::Failed));
+    assert_eq!(depot.call(Event::abort(1)), NONE);
+}
+
+#[test]
+fn each_operation_does_what_its_name_says() {
+    let mut depot = depot(&[5, 10]);
+    let all = [
+        Op::read(0),
+        Op::set(0, 7),
+        Op::add(0, 3),
+        Op::take(0, 4),
+        Op::need(0, 6),
+        Op::match_(0, 6),
+        Op::raise(0, 9),
+        Op::lower(0, 2),
+    ];
+    assert_eq!(depot.call(Event::single(1, &all)), one(1, 0, &[5, 7, 10, 6, 6, 6, 9, 2]));
+    assert_eq!(depot.cells, [2, 10]);
+    for (number, op) in [(2, Op::take(0, 3)), (3, Op::need(0, 3)), (4, Op::match_(0, 3)), (5, Op::add(0, TOP))] {
+        assert_eq!(depot.call(Event::single(number, &[Op::set(1, 1), op])), failed(number, 2), "{op:?}");
+    }
+    assert_eq!(depot.call(Event::single(6, &[Op::raise(0, 1), Op::lower(0, 3)])), one(6, 0, &[2, 2]));
+    assert_eq!(depot.cells, [2, 10]);
+}
+
+#[test]
+fn the_depth_counts_the_front() {
+    let mut depot = depot(&[0]);
+    assert_eq!(depot.call(Event::multi(1, 1, true, &[Op::read(0)])), one(1, 0, &[0]));
+    for number in 2..=DEPTH as u32 {
+        assert_eq!(depot.call(Event::single(number, &[Op::add(0, 1)])), NONE);
+    }
+    assert_eq!(depot.call(Event::single(17, &[Op::add(0, 1)])), NONE);
+    assert_eq!((depot.cells[0], depot.engine.record().uncommitted, depot.engine.record().waiting), (15, 16, 1));
+    assert_eq!(depot.call(Event::commit(1)).unwrap().len(), 16);
+    assert_eq!(depot.cells, [16]);
+}
+
+#[test]
+fn a_record_that_was_stored_goes_on_where_it_was() {
+    let mut depot = swap();
+    let stored = depot.engine.clone().into_record().words();
+    let mut again = Engine::from_record(Record::from_words(&stored));
+    assert_eq!(again, depot.engine);
+    let mut cells = depot.cells.clone();
+    let mut room = [7; 1040];
+    assert_eq!(again.call_words(&mut cells, &Event::commit(1).words(), &mut room), Ok(2));
+    assert_eq!(depot.call(Event::commit(1)).unwrap().len(), 2);
+    assert_eq!(room[..32], depot.room.words()[..32]);
+    assert_eq!(room[32..], [7; 1008], "the rest of the room stays as it was");
+    assert_eq!((again, cells), (depot.engine, depot.cells));
+}

@@ -1,0 +1,300 @@
+//! Wrong engines in place of the archive: each commits one error, and a soak that does not notice it is worth nothing.
+
+use crate::arena::Areas;
+use crate::clauses::{broken, Clause};
+use crate::listed::listed;
+use crate::subject::Subject;
+use crate::view::{CELLS, UNCOMMITTED, WAITING};
+use independent::engine::{State, ANSWER_WORDS, ROOM};
+use independent::event::{Event, EVENT_WORDS};
+use independent::layout::{self, Words, RUNS, RUN_WORDS, UNDO, WORDS};
+use independent::{Engine, Fault, Record};
+use std::hint::black_box;
+use std::slice;
+
+listed! {
+    /// Errors at the boundary, in what is lent, and with records that no run leaves.
+    Slip {
+        RoomTouchedOnRefusal,
+        RoomTouchedAtItsEnd,
+        WordBehindAnswers,
+        WordBehindRoom,
+        WordBehindCells,
+        WordBehindRecord,
+        WordBeforeCells,
+        WordFarBehindRoom,
+        WordFarBehindCells,
+        /// Seen by a checker of memory alone.
+        ReadBehindEvent,
+        CellsTouchedOnRefusal,
+        RecordTouchedOnRefusal,
+        RecordTidiedOnRefusal,
+        EventWritten,
+        OneAnswerOnRefusal,
+        AnswersLeftOnRefusal,
+        OneAnswerMore,
+        LongEvent,
+        ShortEvent,
+        NoEvent,
+        LengthBeforeRecord,
+        LengthBeforeRoom,
+        LengthBeforeCells,
+        Room1023,
+        Room1025,
+        RoomRounded,
+        RoomAfterCells,
+        RoomBeforeRecord,
+        MoreCellsLent,
+        FewerCellsLent,
+        CellsAfterForm,
+        GarbageKept,
+        GarbageInAnswers,
+        HeldNumbersForgotten,
+        StateOfLastFlag,
+        FailedOwnsNothing,
+        EmptyWithWaitingUnsound,
+        LargestTopUnsound,
+        StartKeepsRecord,
+        StartKeepsBadCount,
+        StartOf4097,
+        StartOfNone,
+        StartNumber,
+    }
+}
+
+#[derive(Clone, Copy, Debug, PartialEq, Eq)]
+pub enum Wrong {
+    /// Not wrong: sound by the list of clauses and not by the independent engine. The two must not be told apart.
+    ByClauses,
+    Fault(Fault),
+    /// Goes on with a record that breaks this clause and no other.
+    Unchecked(Clause),
+    Slip(Slip),
+}
+
+impl Wrong {
+    /// By the name of its fault, clause or slip.
+    pub fn named(name: &str) -> Result<Wrong, String> {
+        let all = Wrong::all().into_iter().chain([Wrong::ByClauses, Wrong::Slip(Slip::ReadBehindEvent)]);
+        let called = |wrong: &Wrong| match wrong {
+            Wrong::ByClauses => "ByClauses" == name,
+            Wrong::Fault(fault) => format!("{fault:?}") == name,
+            Wrong::Unchecked(clause) => format!("{clause:?}") == name,
+            Wrong::Slip(slip) => format!("{slip:?}") == name,
+        };
+        all.into_iter().find(called).ok_or(format!("{name} is no wrong engine; --self-check names them"))
+    }
+
+    /// All that must be noticed.
+    pub fn all() -> Vec<Wrong> {
+        let faults = Fault::ALL.into_iter().map(Wrong::Fault);
+        let clauses = Clause::ALL.iter().filter(|clause| !clause.implied()).map(|&clause| Wrong::Unchecked(clause));
+        let slips = Slip::ALL.iter().filter(|&&slip| slip != Slip::ReadBehindEvent).map(|&slip| Wrong::Slip(slip));
+        faults.chain(clauses).chain(slips).collect()
+    }
+}
+
+/// What a call was lent, as slices.
+struct Call<'a> {
+    record: &'a mut Words,
+    cells: &'a mut [u32],
+    event: &'a [u32],
+    room: &'a mut [u32],
+}
+
+impl Call<'_> {
+    fn right(&mut self) -> (u32, u32) {
+        layout::call_in_place(self.record, self.cells, self.event, self.room)
+    }
+
+    /// By an engine of a sound record, changed or with a fault.
+    fn with(&mut self, change: impl FnOnce(&mut Engine)) -> (u32, u32) {
+        match layout::read(self.record).filter(Record::sound) {
+            None => (1, 0),
+            Some(record) => {
+                let mut engine = Engine::of(record);
+                change(&mut engine);
+                layout::call_on(&mut engine, self.record, self.cells, self.event, self.room)
+            }
+        }
+    }
+
+    fn unchecked(&mut self, clause: Clause) -> (u32, u32) {
+        match broken(self.record).only(clause) {
+            true if self.room.len() < ROOM => (2, 0),
+            true => (0, 0),
+            false => self.right(),
+        }
+    }
+
+    fn by_clauses(&mut self) -> (u32, u32) {
+        let unsound = broken(self.record).any();
+        match self.right() {
+            // A number of its own where the two do not agree.
+            (number, _) if unsound != (number == 1) => (99, 0),
+            done => done,
+        }
+    }
+
+    fn refuses(&mut self, when: bool, number: u32) -> (u32, u32) {
+        if when {
+            (number, 0)
+        } else {
+            self.right()
+        }
+    }
+
+    fn sound(&self) -> bool {
+        layout::read(self.record).is_some_and(|record| record.sound())
+    }
+}
+
+impl Subject for Wrong {
+    unsafe fn start(&mut self, record: *mut u32, cells: u32) -> u32 {
+        let record: &mut Words = &mut *record.cast();
+        let old = *record;
+        let (number, started) = layout::start(cells);
+        *record = started;
+        match self {
+            Wrong::Slip(Slip::StartKeepsRecord) => record[4..].copy_from_slice(&old[4..]),
+            Wrong::Slip(Slip::StartKeepsBadCount) => record[CELLS] = cells,
+            Wrong::Slip(Slip::StartOf4097) if cells == 4097 => return 0,
+            Wrong::Slip(Slip::StartOfNone) if cells == 0 => return 0,
+            Wrong::Slip(Slip::StartNumber) if number != 0 => return 2,
+            _ => {}
+        }
+        number
+    }
+
+    unsafe fn call(&mut self, areas: Areas) -> u32 {
+        let lent = areas.lent;
+        let mut call = Call {
+            record: &mut *areas.record.cast(),
+            cells: slice::from_raw_parts_mut(areas.cells, lent.cells),
+            event: slice::from_raw_parts(areas.event, lent.event),
+            room: slice::from_raw_parts_mut(areas.room, lent.room),
+        };
+        let (number, answers) = match *self {
+            Wrong::ByClauses => call.by_clauses(),
+            Wrong::Fault(fault) => call.with(|engine| engine.fault = fault),
+            Wrong::Unchecked(clause) => call.unchecked(clause),
+            Wrong::Slip(slip) => slip.call(&mut call, areas),
+        };
+        *areas.answers = match *self {
+            Wrong::Slip(Slip::OneAnswerOnRefusal) if number != 0 => 1,
+            Wrong::Slip(Slip::AnswersLeftOnRefusal) if number != 0 => return number,
+            Wrong::Slip(Slip::OneAnswerMore) if number == 0 => answers + 1,
+            _ => answers,
+        };
+        number
+    }
+}
+
+impl Slip {
+    /// # Safety
+    /// The guards around the areas are there.
+    unsafe fn call(self, call: &mut Call, areas: Areas) -> (u32, u32) {
+        let before = *call.record;
+        let (number, answers) = self.refuse_or_act(call);
+        match self {
+            _ if number == 0 => self.after_acceptance(call, areas, &before, answers),
+            _ => self.after_refusal(call, areas, number),
+        }
+        (number, answers)
+    }
+
+    /// Errors in the numbers and the steps.
+    fn refuse_or_act(self, call: &mut Call) -> (u32, u32) {
+        let (cells, event, room) = (call.cells.len(), call.event.len(), call.room.len());
+        let said = call.record[CELLS] as usize;
+        let bad_length = event != EVENT_WORDS;
+        match self {
+            Slip::LongEvent if event > EVENT_WORDS => {
+                let first = &call.event[..EVENT_WORDS];
+                layout::call_in_place(call.record, call.cells, first, call.room)
+            }
+            Slip::ShortEvent if event == EVENT_WORDS - 1 => {
+                let mut longer = [0; EVENT_WORDS];
+                longer[..event].copy_from_slice(call.event);
+                layout::call_in_place(call.record, call.cells, &longer, call.room)
+            }
+            Slip::NoEvent if event == 0 => {
+                let (number, answers) = call.right();
+                (if number == 4 { 0 } else { number }, answers)
+            }
+            Slip::LengthBeforeRecord => call.refuses(bad_length, 4),
+            Slip::LengthBeforeRoom => call.refuses(bad_length && call.sound(), 4),
+            Slip::LengthBeforeCells => call.refuses(bad_length && call.sound() && room >= ROOM, 4),
+            Slip::Room1023 if room == ROOM - 1 => {
+                let mut larger = [0; ROOM];
+                layout::call_in_place(call.record, call.cells, call.event, &mut larger)
+            }
+            Slip::Room1025 => call.refuses(call.sound() && room == ROOM, 2),
+            Slip::RoomRounded => call.refuses(call.sound() && room % ANSWER_WORDS != 0, 2),
+            Slip::RoomAfterCells => call.refuses(call.sound() && (cells == 0 || cells != said), 3),
+            Slip::RoomBeforeRecord => call.refuses(room < ROOM, 2),
+            Slip::MoreCellsLent if cells > said && said > 0 => {
+                layout::call_in_place(call.record, &mut call.cells[..said], call.event, call.room)
+            }
+            Slip::FewerCellsLent if cells > 0 && cells < said && call.sound() && room >= ROOM => (4, 0),
+            Slip::CellsAfterForm => {
+                let formed = !bad_length && Event::read(call.event).well_formed();
+                call.refuses(call.sound() && room >= ROOM && !formed, 4)
+            }
+            Slip::HeldNumbersForgotten => call.with(|engine| {
+                let held = engine.record.uncommitted.iter_mut().filter_map(|one| one.held.as_mut());
+                held.filter(|held| held.place != 0).for_each(|held| held.numbers.clear());
+            }),
+            Slip::StateOfLastFlag => call.with(|engine| {
+                let finished = engine.record.uncommitted.iter_mut().filter(|one| one.state == State::Running);
+                finished.filter(|one| one.first.is_last()).for_each(|one| one.state = State::Finished);
+            }),
+            Slip::FailedOwnsNothing => call.with(|engine| {
+                let failed = engine.record.uncommitted.iter_mut().filter(|one| one.state == State::Failed);
+                failed.for_each(|one| one.undo.clear());
+            }),
+            Slip::EmptyWithWaitingUnsound => call.refuses(call.record[UNCOMMITTED] == 0 && call.record[WAITING] > 0, 1),
+            Slip::LargestTopUnsound => call.refuses(call.record[1] == u32::MAX, 1),
+            _ => call.right(),
+        }
+    }
+
+    unsafe fn after_acceptance(self, call: &mut Call, areas: Areas, before: &Words, answers: u32) {
+        let filled = ANSWER_WORDS * answers as usize;
+        match self {
+            Slip::WordBehindAnswers if filled < call.room.len() => call.room[filled] = 0,
+            Slip::WordBehindRoom => *areas.room.add(areas.lent.room) ^= 1,
+            Slip::WordBehindCells => *areas.cells.add(areas.lent.cells) = 0,
+            Slip::WordBehindRecord => *areas.record.add(WORDS) = 0,
+            Slip::WordBeforeCells => *areas.cells.sub(1) = 0,
+            Slip::WordFarBehindRoom if areas.lent.room == ROOM => *areas.room.add(ROOM + 999) ^= 1,
+            Slip::WordFarBehindCells if areas.lent.cells < 4000 => *areas.cells.add(areas.lent.cells + 99) ^= 1,
+            Slip::ReadBehindEvent => drop(black_box(*areas.event.add(areas.lent.event))),
+            Slip::EventWritten => *areas.event ^= 4,
+            // The two last words of each run row are never used.
+            Slip::GarbageKept => {
+                for row in (RUNS..UNDO).step_by(RUN_WORDS) {
+                    call.record[row + 14..row + 16].copy_from_slice(&before[row + 14..row + 16]);
+                }
+            }
+            Slip::GarbageInAnswers if answers > 0 => call.room[filled - 1] = before[RUNS + RUN_WORDS - 1],
+            _ => {}
+        }
+    }
+
+    unsafe fn after_refusal(self, call: &mut Call, areas: Areas, number: u32) {
+        match self {
+            Slip::RoomTouchedOnRefusal if !call.room.is_empty() => call.room[0] = 0,
+            Slip::RoomTouchedAtItsEnd => call.room.last_mut().into_iter().for_each(|word| *word = 0),
+            Slip::CellsTouchedOnRefusal if number == 8 && !call.cells.is_empty() => call.cells[0] ^= 1,
+            Slip::RecordTouchedOnRefusal if number == 10 => call.record[1] = call.event[1],
+            Slip::RecordTidiedOnRefusal => {
+                if let Some(record) = layout::read(call.record).filter(Record::sound) {
+                    *call.record = layout::lay_out(&record);
+                }
+            }
+            Slip::EventWritten if areas.lent.event > 0 => *areas.event = 0,
+            _ => {}
+        }
+    }
+}
