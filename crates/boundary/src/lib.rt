@@ -3,8 +3,9 @@
 ghost use mathlib.Core.Path.{_≡_};
 ghost use Rattle.model.specs.Limits.{mostCells, leastRoom, eventWords};
 ghost use Rattle.boundary.specs.Words.{eventOf, answerWords, recordBytes};
+ghost use Rattle.engine.specs.Called.{recordBy, turned};
 ghost use Rattle.boundary.specs.Lent.{started, told, answered};
-use engine::Called;
+use engine::Turned;
 use model::Event;
 use record::Record;
 
@@ -28,12 +29,34 @@ pub fn event_of(words: &[u32]) -> Event
     }
 }
 
-// A call with the record by value and the event in words.
-pub fn turn(r: Record, cells: &mut [u32], event: &[u32], room: &mut [u32]) -> Called
-    ensures { λ d. ⌜ answered r (eventOf (now (event .entry))) (now (cells .entry)) (now (room .entry)) d (now (cells .exit)) (now (room .exit)) ⌝ }
+// A call on lent rows, with the event in words.
+pub fn turn(
+    count: u32,
+    largest: u32,
+    uncommitted: u32,
+    waiting: u32,
+    live: &mut [u32; 1792],
+    runs: &mut [u32; 256],
+    undo: &mut [u32; 368],
+    cells: &mut [u32],
+    event: &[u32],
+    room: &mut [u32],
+) -> Turned
+    ensures { λ d. ⌜ answered (recordBy count largest uncommitted waiting (now (live .entry)) (now (runs .entry)) (now (undo .entry))) (eventOf (now (event .entry))) (now (cells .entry)) (now (room .entry)) (turned count d (now (live .exit)) (now (runs .exit)) (now (undo .exit))) (now (cells .exit)) (now (room .exit)) ⌝ }
 {
     let v = event_of(event);
-    engine::call(r, cells, v, room)
+    engine::turn(
+        count,
+        largest,
+        uncommitted,
+        waiting,
+        live,
+        runs,
+        undo,
+        cells,
+        v,
+        room,
+    )
 }
 
 // Starts a record of so many cells, whatever it held.
@@ -57,11 +80,23 @@ pub extern "C" fn harukdalis_call(
 ) -> u32
     ensures { λ n. ⌜ answered (now (r .entry)) (eventOf (now (event .entry))) (now (cells .entry)) (now (room .entry)) (told n (now (answers .exit)) (now (r .exit))) (now (cells .exit)) (now (room .exit)) ⌝ }
 {
-    let s = *r;
-    let d = turn(s, cells, event, room);
-    *r = d.next;
-    *answers = d.answers;
-    d.number
+    let t = turn(
+        r.count,
+        r.largest,
+        r.uncommitted,
+        r.waiting,
+        &mut r.live,
+        &mut r.runs,
+        &mut r.undo,
+        cells,
+        event,
+        room,
+    );
+    r.largest = t.largest;
+    r.uncommitted = t.uncommitted;
+    r.waiting = t.waiting;
+    *answers = t.answers;
+    t.number
 }
 
 // The size of the record in bytes.

@@ -20,8 +20,8 @@ use Rattle.model.proofs.Passing.{Passed, passed}
 use Rattle.refusals.specs.Rest.{callOf}
 use Rattle.record.specs.declared.Record.{Record}
 use Rattle.record.specs.Words.{pack, allRows, allRuns, liveRows}
-use Rattle.record.specs.View.{numbersFrom, uncommittedOf, waitingOf, viewOf, view}
-use Rattle.record.proofs.Rows.{shift-padded, zeros}
+use Rattle.record.specs.View.{numbersFrom, zeros, uncommittedOf, waitingOf, viewOf, view}
+use Rattle.record.proofs.Rows.{shift-padded}
 use Rattle.record.proofs.Back.{Eight, length-rows, rows-append, eights-first}
 use Rattle.operations.specs.Laid.{padded}
 use Rattle.tidy.specs.Tidied.{Canonical}

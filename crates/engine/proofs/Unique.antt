@@ -1,13 +1,14 @@
--- The contracts of `call` and `start` allow one outcome each.
+-- The contracts of `call`, `turn` and `start` allow one outcome each.
 use Prim.Native.Nat.{ℕ}
 use mathlib.Core.Path.{_≡_, sym, _∙_}
 use mathlib.Core.List.{List}
 use Rattle.model.specs.Operations.{Cells}
 use Rattle.model.specs.declared.Event.{Event}
 use Rattle.record.specs.declared.Record.{Record}
-use Rattle.engine.specs.Called.{called, cellsAfter, roomAfter, freshOf}
+use Rattle.engine.specs.Called.{called, cellsAfter, roomAfter, freshOf, turned}
 use Rattle.engine.specs.declared.Called.{Called}
 use Rattle.engine.specs.declared.Fresh.{Fresh}
+use Rattle.engine.specs.declared.Turned.{Turned}
 
 -- what a call leaves: its result, the lent cells and the lent room
 pub record Outcome : Type 0 where
@@ -23,6 +24,17 @@ pub record Allowed (r : Record) (v : Event) (lent : Cells) (lentRoom : List ℕ)
 
 pub call-unique : (r : Record) (v : Event) (lent : Cells) (lentRoom : List ℕ) (a b : Outcome) → Allowed r v lent lentRoom a → Allowed r v lent lentRoom b → a ≡ b
 call-unique r v lent lentRoom a b p q = λ i. record { result = (p .returns ∙ sym (q .returns)) i; cells = (p .leaves ∙ sym (q .leaves)) i; room = (p .fills ∙ sym (q .fills)) i }
+
+-- of `turn`: what it returns and the lent rows are one record's, and that is `called`
+pub turn-unique : (r : Record) (v : Event) (lent : Cells) (lentRoom : List ℕ) (n : ℕ) (d e : Turned) (live live′ runs runs′ undo undo′ : List ℕ) → turned n d live runs undo ≡ called r v lent lentRoom → turned n e live′ runs′ undo′ ≡ called r v lent lentRoom
+    → (d ≡ e) × (live ≡ live′) × (runs ≡ runs′) × (undo ≡ undo′)
+turn-unique r v lent lentRoom n d e live live′ runs runs′ undo undo′ p q =
+    let s = p ∙ sym q in (
+      (λ i. record { number = s i .number; answers = s i .answers; largest = s i .next .largest; uncommitted = s i .next .uncommitted; waiting = s i .next .waiting }),
+      (λ i. s i .next .live),
+      (λ i. s i .next .runs),
+      (λ i. s i .next .undo),
+    )
 
 pub start-unique : (n : ℕ) (a b : Fresh) → a ≡ freshOf n → b ≡ freshOf n → a ≡ b
 start-unique n a b p q = p ∙ sym q

@@ -12,6 +12,7 @@ use Rattle.record.specs.Words.{pack}
 use Rattle.record.specs.View.{view}
 use Rattle.engine.specs.declared.Called.{Called}
 use Rattle.engine.specs.declared.Fresh.{Fresh}
+use Rattle.engine.specs.declared.Turned.{Turned}
 
 unfoldable pub stepped : Record → Event → Cells → List ℕ → Stepped
 stepped r v cells room = step (view r) (callOf v cells room)
@@ -32,6 +33,14 @@ cellsAfter r v cells room = stepped r v cells room .cells
 
 abbrev pub roomAfter : Record → Event → Cells → List ℕ → List ℕ
 roomAfter r v cells room = stepped r v cells room .room
+
+-- a record from its counts and its rows, and what a call on lent rows leaves, as one record
+abbrev pub recordBy : ℕ → ℕ → ℕ → ℕ → List ℕ → List ℕ → List ℕ → Record
+recordBy count largest uncommitted waiting live runs undo =
+    record { count = count; largest = largest; uncommitted = uncommitted; waiting = waiting; live = live; runs = runs; undo = undo }
+
+abbrev pub turned : ℕ → Turned → List ℕ → List ℕ → List ℕ → Called
+turned count d live runs undo = record { number = d .number; answers = d .answers; next = recordBy count (d .largest) (d .uncommitted) (d .waiting) live runs undo }
 
 -- starting
 unfoldable pub freshOf : ℕ → Fresh

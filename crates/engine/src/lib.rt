@@ -11,7 +11,7 @@ ghost use Rattle.record.specs.Words.{rowWords, pack};
 ghost use Rattle.record.specs.View.{viewOf};
 ghost use Rattle.refusals.specs.Rest.{callOf};
 ghost use Rattle.engine.specs.Work.{Left, waitingMore};
-ghost use Rattle.engine.specs.Called.{called, cellsAfter, roomAfter, freshOf};
+ghost use Rattle.engine.specs.Called.{called, cellsAfter, roomAfter, freshOf, recordBy, turned};
 ghost use Rattle.engine.specs.Ready.{Ready, largestBy};
 use crate::queues::Counts;
 use model::Event;
@@ -25,6 +25,15 @@ pub struct Called {
     pub number: u32,
     pub answers: u32,
     pub next: Record,
+}
+
+// What a call on lent rows returns: the number, the count of answers, and the next record's counts.
+pub struct Turned {
+    pub number: u32,
+    pub answers: u32,
+    pub largest: u32,
+    pub uncommitted: u32,
+    pub waiting: u32,
 }
 
 // What starting returns: the number and the record.
@@ -174,6 +183,67 @@ pub(crate) fn largest_after(kind: u32, number: u32, largest: u32) -> u32
     }
 }
 
+// A call on a record whose rows are lent: refused with nothing touched, or carried out where the rows stand.
+pub fn turn(
+    count: u32,
+    largest: u32,
+    uncommitted: u32,
+    waiting: u32,
+    live: &mut [u32; 1792],
+    runs: &mut [u32; 256],
+    undo: &mut [u32; 368],
+    cells: &mut [u32],
+    event: Event,
+    room: &mut [u32],
+) -> Turned
+    ensures { λ d. ⌜ turned count d (now (live .exit)) (now (runs .exit)) (now (undo .exit)) ≡ called (recordBy count largest uncommitted waiting (now (live .entry)) (now (runs .entry)) (now (undo .entry))) event (now (cells .entry)) (now (room .entry)) ⌝ }
+    ensures { λ d. ⌜ now (cells .exit) ≡ cellsAfter (recordBy count largest uncommitted waiting (now (live .entry)) (now (runs .entry)) (now (undo .entry))) event (now (cells .entry)) (now (room .entry)) ⌝ }
+    ensures { λ d. ⌜ now (room .exit) ≡ roomAfter (recordBy count largest uncommitted waiting (now (live .entry)) (now (runs .entry)) (now (undo .entry))) event (now (cells .entry)) (now (room .entry)) ⌝ }
+{
+    let number = refused(
+        count,
+        largest,
+        uncommitted,
+        waiting,
+        live,
+        runs,
+        undo,
+        cells,
+        room,
+        event,
+    );
+    if number != 0 {
+        return Turned {
+            number: number,
+            answers: 0,
+            largest: largest,
+            uncommitted: uncommitted,
+            waiting: waiting,
+        };
+    }
+    let entries = tidy::tidy(uncommitted, waiting, live, runs, undo);
+    let c = Counts {
+        first: 0,
+        uncommitted: uncommitted,
+        waiting: waiting,
+        entries: entries,
+        answers: 0,
+    };
+    let d = accept(live, runs, undo, cells, room, c, event);
+    record::shift(
+        live,
+        28 * d.first,
+        28 * (d.first + d.uncommitted + d.waiting),
+    );
+    Turned {
+        number: 0,
+        answers: d.answers,
+        largest: largest_after(event.kind, event.number, largest),
+        uncommitted: d.uncommitted,
+        waiting: d.waiting,
+    }
+}
+
 // One call, of any record, any lent cells, any event and any lent answer room: refused with nothing touched, or carried out.
 pub fn call(r: Record, cells: &mut [u32], event: Event, room: &mut [u32]) -> Called
     ensures { λ d. ⌜ d ≡ called r event (now (cells .entry)) (now (room .entry)) ⌝ }
@@ -183,51 +253,30 @@ pub fn call(r: Record, cells: &mut [u32], event: Event, room: &mut [u32]) -> Cal
     let mut live = r.live;
     let mut runs = r.runs;
     let mut undo = r.undo;
-    let number = refused(
+    let t = turn(
         r.count,
         r.largest,
         r.uncommitted,
         r.waiting,
-        &live,
-        &runs,
-        &undo,
-        cells,
-        room,
-        event,
-    );
-    if number != 0 {
-        return Called {
-            number: number,
-            answers: 0,
-            next: r,
-        };
-    }
-    let entries = tidy::tidy(r.uncommitted, r.waiting, &mut live, &mut runs, &mut undo);
-    let c = Counts {
-        first: 0,
-        uncommitted: r.uncommitted,
-        waiting: r.waiting,
-        entries: entries,
-        answers: 0,
-    };
-    let d = accept(&mut live, &mut runs, &mut undo, cells, room, c, event);
-    record::shift(
         &mut live,
-        28 * d.first,
-        28 * (d.first + d.uncommitted + d.waiting),
+        &mut runs,
+        &mut undo,
+        cells,
+        event,
+        room,
     );
     let next = Record {
         count: r.count,
-        largest: largest_after(event.kind, event.number, r.largest),
-        uncommitted: d.uncommitted,
-        waiting: d.waiting,
+        largest: t.largest,
+        uncommitted: t.uncommitted,
+        waiting: t.waiting,
         live: live,
         runs: runs,
         undo: undo,
     };
     Called {
-        number: 0,
-        answers: d.answers,
+        number: t.number,
+        answers: t.answers,
         next: next,
     }
 }

@@ -1,5 +1,5 @@
 -- Laws of rows of words: laying, shifting, clearing, and reading back what was laid.
-use Prim.Native.Nat.{ℕ, zero, suc, _+_, _*_, _-_, _≤_, _<_}
+use Prim.Native.Nat.{ℕ, zero, suc, _+_, _*_, _-_, _≤_, _<_, min}
 use native.Mathlib.Omega.{arith}
 use native.Mathlib.Numerals.{add-one}
 use borrow.Author.Tests.{leb-true, leb-false, ltb-true, ltb-false, eqb-true, eqb-false}
@@ -14,7 +14,7 @@ use Rattle.model.specs.declared.Fragment.{Fragment}
 use Rattle.operations.specs.Laid.{padded}
 use Rattle.operations.proofs.Turns.{noOp, length-padded}
 use Rattle.record.specs.Words.{opsWords, rowWords}
-use Rattle.record.specs.View.{opAt, fragmentAt, numbersFrom}
+use Rattle.record.specs.View.{opAt, fragmentAt, numbersFrom, zeros}
 
 -- one turn of laying
 pub lay-turn : (row row′ words all : List ℕ) (at n i w : ℕ) → i < n → w ≡ getD words i 0 → row′ ≡ set row (at + i) w → sets row (at + i) (numbersFrom words i (n - i)) ≡ all
@@ -33,14 +33,34 @@ lay-start row words at n =
     let b : n - 0 ≡ n = omega arith in
     λ j. sets row (a j) (numbersFrom words 0 (b j))
 
+-- the same from a place of the words on
+pub lay-from-turn : (row words all : List ℕ) (at from n i : ℕ) → i < n → sets row (at + i) (numbersFrom words (from + i) (n - i)) ≡ all
+    → sets (set row (at + i) (getD words (from + i) 0)) (at + (i + 1)) (numbersFrom words (from + (i + 1)) (n - (i + 1))) ≡ all
+unfolding numbersFrom
+lay-from-turn row words all at from n i h inv =
+    let e : n - i ≡ suc (n - (i + 1)) = omega arith in
+    let p : at + (i + 1) ≡ suc (at + i) = omega arith in
+    let q : from + (i + 1) ≡ from + i + 1 = omega arith in
+    (λ j. sets (set row (at + i) (getD words (from + i) 0)) (p j) (numbersFrom words (q j) (n - (i + 1)))) ∙ ap (λ (x : ℕ). sets row (at + i) (numbersFrom words (from + i) x)) (sym e) ∙ inv
+
+pub lay-from-start : (row words : List ℕ) (at from n : ℕ) → sets row (at + 0) (numbersFrom words (from + 0) (n - 0)) ≡ sets row at (numbersFrom words from n)
+lay-from-start row words at from n =
+    let a : at + 0 ≡ at = omega arith in
+    let f : from + 0 ≡ from = omega arith in
+    let b : n - 0 ≡ n = omega arith in
+    λ j. sets row (a j) (numbersFrom words (f j) (b j))
+
+pub lay-from-end : (row words all : List ℕ) (at from n i : ℕ) → n ≤ i → sets row (at + i) (numbersFrom words (from + i) (n - i)) ≡ all → row ≡ all
+unfolding numbersFrom
+lay-from-end row words all at from n i h inv =
+    let e : n - i ≡ 0 = omega arith in
+    sym (ap (λ (x : ℕ). sets row (at + i) (numbersFrom words (from + i) x)) e) ∙ inv
+
 pub lay-end : (row words all : List ℕ) (at n i : ℕ) → n ≤ i → sets row (at + i) (numbersFrom words i (n - i)) ≡ all → row ≡ all
 unfolding numbersFrom
 lay-end row words all at n i h inv =
     let e : n - i ≡ 0 = omega arith in
     sym (ap (λ (x : ℕ). sets row (at + i) (numbersFrom words i x)) e) ∙ inv
-
-abbrev pub zeros : ℕ → List ℕ
-zeros n = replicate n 0
 
 -- reading what a row holds
 
@@ -167,6 +187,108 @@ shift-none row zero = refl
 shift-none row (suc m) =
     shift-turn row row row 0 m (getD row m 0) (shift-none row m) (let z : m ≡ 0 + m = omega arith in ap (λ (x : ℕ). getD row x 0) z) (sym (set-own row m))
     ∙ ap (λ (x : ℕ). sets row 0 (numbersFrom row 0 x)) (add-one m)
+
+getD-sets-before : (l : List ℕ) (i : ℕ) (ws : List ℕ) (x : ℕ) → x < i → getD (sets l i ws) x 0 ≡ getD l x 0
+getD-sets-before l i [] x h = refl
+getD-sets-before l i (a ∷ ws) x h = getD-sets-before (set l i a) (suc i) ws x (omega arith) ∙ getD-set-other l i x a 0 (λ e. omega arith)
+
+getD-sets-at : (l : List ℕ) (i : ℕ) (ws : List ℕ) (x : ℕ) → i ≤ x → x < i + length ws → x < length l → getD (sets l i ws) x 0 ≡ getD ws (x - i) 0
+getD-sets-at l i [] x h k m = absurd (omega arith)
+getD-sets-at l i (a ∷ ws) x h k m = go (eqb x i) refl (λ p q r. getD-sets-at (set l i a) (suc i) ws x p q r)
+  where
+    go : (b : Bool) → eqb x i ≡ b → (suc i ≤ x → x < suc i + length ws → x < length (set l i a) → getD (sets (set l i a) (suc i) ws) x 0 ≡ getD ws (x - suc i) 0) → getD (sets (set l i a) (suc i) ws) x 0 ≡ getD (a ∷ ws) (x - i) 0
+    go true e f =
+        let y : x ≡ i = eqb-true x i e in
+        let z : x - i ≡ 0 = omega arith in
+        getD-sets-before (set l i a) (suc i) ws x (omega arith) ∙ ap (λ (q : ℕ). getD (set l i a) q 0) y ∙ getD-set-same l i a 0 (omega arith) ∙ ap (λ (q : ℕ). getD (a ∷ ws) q 0) (sym z)
+    go false e f =
+        let y : x ≡ i → ⊥ = eqb-false x i e in
+        let z : x - i ≡ suc (x - suc i) = omega arith in
+        f (omega arith) (omega arith) (omega (arith, length-set l i a)) ∙ ap (λ (q : ℕ). getD (a ∷ ws) q 0) (sym z)
+
+-- words copied out of a row that may end before them, and the fragment that they are
+pub copied-out : (row : List ℕ) (at m n : ℕ) → n ≡ min m (length row - at) → sets (zeros m) 0 (numbersFrom row at n) ≡ numbersFrom row at m
+copied-out row at m n e =
+    ext-getD 0 (sets (zeros m) 0 (numbersFrom row at n)) (numbersFrom row at m) (length-sets (zeros m) 0 (numbersFrom row at n) ∙ lz ∙ sym (length-numbers row at m))
+    (λ x hx. go x (omega (arith, lz, length-sets (zeros m) 0 (numbersFrom row at n))) (ltb x n) refl)
+  where
+    lz : length (zeros m) ≡ m
+    lz = length-replicate m 0
+
+    go : (x : ℕ) → x < m → (b : Bool) → ltb x n ≡ b → getD (sets (zeros m) 0 (numbersFrom row at n)) x 0 ≡ getD (numbersFrom row at m) x 0
+    go x h true t =
+        let y : x < n = ltb-true x n t in
+        getD-sets-in (zeros m) (numbersFrom row at n) x (omega (arith, lz, length-numbers row at n)) (omega (arith, length-numbers row at n)) ∙ getD-numbers row at n x y ∙ sym (getD-numbers row at m x h)
+    go x h false t =
+        let y : n ≤ x = ltb-false x n t in
+        let z : getD (zeros m) x 0 ≡ 0 = getD-replicate m x 0 0 h in
+        getD-sets-after (zeros m) 0 (numbersFrom row at n) x (omega (arith, length-numbers row at n)) ∙ z ∙ sym (getD-numbers row at m x h ∙ List·getD-eq-default row 0 {n = at + x} (omega arith))
+
+pub fragment-words : (row : List ℕ) (at : ℕ) → fragmentAt (numbersFrom row at 28) 0 ≡ fragmentAt row at
+unfolding fragmentAt
+fragment-words row at = λ j. record {
+  flags = w 1 (omega arith) j;
+  coordinator = w 2 (omega arith) j;
+  count = w 3 (omega arith) j;
+  row = o 4 (omega arith) j ∷ o 7 (omega arith) j ∷ o 10 (omega arith) j ∷ o 13 (omega arith) j ∷ o 16 (omega arith) j ∷ o 19 (omega arith) j ∷ o 22 (omega arith) j ∷ o 25 (omega arith) j ∷ [];
+}
+  where
+    w : (x : ℕ) → x < 28 → getD (numbersFrom row at 28) (0 + x) 0 ≡ getD row (at + x) 0
+    w x h = let z : 0 + x ≡ x = omega arith in ap (λ (y : ℕ). getD (numbersFrom row at 28) y 0) z ∙ getD-numbers row at 28 x h
+
+    at-part : (x k : ℕ) → x + k < 28 → getD (numbersFrom row at 28) (0 + x + k) 0 ≡ getD row (at + x + k) 0
+    at-part x k h =
+        let z : 0 + x + k ≡ x + k = omega arith in
+        let y : at + (x + k) ≡ at + x + k = omega arith in
+        ap (λ (q : ℕ). getD (numbersFrom row at 28) q 0) z ∙ getD-numbers row at 28 (x + k) h ∙ ap (λ (q : ℕ). getD row q 0) y
+
+    o : (x : ℕ) → x < 26 → opAt (numbersFrom row at 28) (0 + x) ≡ opAt row (at + x)
+    o x h = λ j. record { code = w x (omega arith) j; cell = at-part x 1 (omega arith) j; amount = at-part x 2 (omega arith) j }
+
+-- one turn of clearing a stretch
+zeros-snoc : (n : ℕ) → zeros (suc n) ≡ zeros n ++ (0 ∷ [])
+zeros-snoc zero = refl
+zeros-snoc (suc n) = ap {B = List ℕ} (λ (x : List ℕ). 0 ∷ x) (zeros-snoc n)
+
+pub blank-turn : (row₀ row : List ℕ) (from i : ℕ) → from ≤ i → row ≡ sets row₀ from (zeros (i - from)) → set row i 0 ≡ sets row₀ from (zeros (i + 1 - from))
+blank-turn row₀ row from i h inv =
+    let e : i + 1 - from ≡ suc (i - from) = omega arith in
+    let lz : length (zeros (i - from)) ≡ i - from = length-replicate (i - from) 0 in
+    let at : i ≡ from + length (zeros (i - from)) = omega arith in
+    ap (λ (x : List ℕ). set x i 0) inv ∙ ap (λ (x : ℕ). set (sets row₀ from (zeros (i - from))) x 0) at
+    ∙ sym (sets-snoc row₀ from (zeros (i - from)) 0) ∙ ap (sets row₀ from) (sym (zeros-snoc (i - from))) ∙ ap (λ (x : ℕ). sets row₀ from (zeros x)) (sym e)
+
+-- a shift in two parts: what is there is moved, and what would come from past the end is cleared
+pub shift-parts : (row : List ℕ) (k m n stop : ℕ) → stop ≡ min m (length row) → n ≡ min (length row - k) stop → sets (sets row 0 (numbersFrom row k n)) n (zeros (stop - n)) ≡ sets row 0 (numbersFrom row k m)
+shift-parts row k m n stop es en =
+    ext-getD 0 (sets moved n (zeros (stop - n))) (sets row 0 (numbersFrom row k m)) (length-sets moved n (zeros (stop - n)) ∙ lm ∙ sym (length-sets row 0 (numbersFrom row k m)))
+    (λ x hx. go x (omega (arith, lm, length-sets moved n (zeros (stop - n)))) (ltb x stop) refl)
+  where
+    moved : List ℕ
+    moved = sets row 0 (numbersFrom row k n)
+
+    lm : length (sets row 0 (numbersFrom row k n)) ≡ length row
+    lm = length-sets row 0 (numbersFrom row k n)
+
+    lz : length (zeros (stop - n)) ≡ stop - n
+    lz = length-replicate (stop - n) 0
+
+    new : (x p : ℕ) → x < p → x < length row → getD (sets row 0 (numbersFrom row k p)) x 0 ≡ getD row (k + (x - 0)) 0
+    new x p h hx = getD-sets-at row 0 (numbersFrom row k p) x (omega arith) (omega (arith, length-numbers row k p)) hx ∙ getD-numbers row k p (x - 0) (omega arith)
+
+    inside : (x : ℕ) → x < length row → x < stop → (b : Bool) → ltb x n ≡ b → getD (sets (sets row 0 (numbersFrom row k n)) n (zeros (stop - n))) x 0 ≡ getD row (k + (x - 0)) 0
+    inside x hx hs true e = let y : x < n = ltb-true x n e in getD-sets-before moved n (zeros (stop - n)) x y ∙ new x n y hx
+    inside x hx hs false e =
+        let y : n ≤ x = ltb-false x n e in
+        let z : getD (zeros (stop - n)) (x - n) 0 ≡ 0 = getD-replicate (stop - n) (x - n) 0 0 (omega arith) in
+        getD-sets-at moved n (zeros (stop - n)) x y (omega (arith, lz)) (omega (arith, lm)) ∙ z ∙ sym (List·getD-eq-default row 0 {n = k + (x - 0)} (omega arith))
+
+    go : (x : ℕ) → x < length row → (b : Bool) → ltb x stop ≡ b → getD (sets (sets row 0 (numbersFrom row k n)) n (zeros (stop - n))) x 0 ≡ getD (sets row 0 (numbersFrom row k m)) x 0
+    go x hx true e = let y : x < stop = ltb-true x stop e in inside x hx y (ltb x n) refl ∙ sym (new x m (omega arith) hx)
+    go x hx false e =
+        let y : stop ≤ x = ltb-false x stop e in
+        getD-sets-after moved n (zeros (stop - n)) x (omega (arith, lz)) ∙ getD-sets-after row 0 (numbersFrom row k n) x (omega (arith, length-numbers row k n))
+        ∙ sym (getD-sets-after row 0 (numbersFrom row k m) x (omega (arith, length-numbers row k m)))
 
 -- the front g of a padded row shifted out
 pub shift-padded : (n : ℕ) (g l : List ℕ) (k m : ℕ) → length g ≡ k → length (g ++ l) ≡ m → m ≤ n → sets (padded n (g ++ l)) 0 (numbersFrom (padded n (g ++ l)) k m) ≡ padded n l

@@ -2,7 +2,7 @@
 use Prim.Native.Nat.{ℕ, zero, suc, _+_, _*_}
 use mathlib.Core.List.{List, [], _∷_}
 use lib.Dec.{eqb}
-use lib.ListN.{getD}
+use lib.ListN.{getD, replicate}
 use Rattle.model.specs.Operations.{Outcome, pick}
 use Rattle.model.specs.Transactions.{State, Running, Finished, Failed, NoState, Reply, Held, Sent, NoReply, Uncommitted, Waiting, Engine}
 use Rattle.model.specs.declared.Op.{Op}
@@ -32,6 +32,10 @@ waitingOf l b (suc n) = record { number = getD l b 0; fragment = fragmentAt l b 
 unfoldable pub numbersFrom : List ℕ → ℕ → ℕ → List ℕ
 numbersFrom l b zero = []
 numbersFrom l b (suc n) = getD l b 0 ∷ numbersFrom l (b + 1) n
+
+-- n zeros
+abbrev pub zeros : ℕ → List ℕ
+zeros n = replicate n 0
 
 -- the cases that the words of a state and of a reply stand for
 abbrev pub stateOf : ℕ → State

@@ -1,10 +1,10 @@
 // The engine's record by value, every field a 32-bit number, and what is read off its rows.
 ghost use mathlib.Core.Path.{_≡_};
-ghost use Prim.Native.Nat.{_+_, _*_, _<_};
+ghost use Prim.Native.Nat.{_+_, _*_, _-_, _<_, _≤_, min};
 ghost use lib.ListN.{length, getD, take};
 ghost use lib.Seq.{sets};
 ghost use Rattle.record.specs.Words.{rowWords};
-ghost use Rattle.record.specs.View.{opAt, fragmentAt, numbersFrom};
+ghost use Rattle.record.specs.View.{opAt, fragmentAt, numbersFrom, zeros};
 ghost use Rattle.operations.specs.Laid.{padded};
 use model::Fragment;
 use model::Op;
@@ -23,18 +23,80 @@ pub struct Record {
     pub undo: [u32; 368],
 }
 
-// The operation whose words start at b.
-pub(crate) fn op_at(row: &[u32], b: usize) -> Op
-    requires { ⌜ b < 8589934592 ⌝ }
+// The operation whose words start at b, all of them there.
+pub(crate) fn op_in(row: &[u32], b: usize) -> Op
+    requires { ⌜ b + 3 ≤ length (now row) ⌝ }
     ensures { λ r. ⌜ r ≡ opAt (now (row .entry)) b ⌝ }
 {
-    let c = operations::number_at(row, b);
-    let e = operations::number_at(row, b + 1);
-    let v = operations::number_at(row, b + 2);
+    let c = row[b];
+    let e = row[b + 1];
+    let v = row[b + 2];
     Op {
         code: c,
         cell: e,
         amount: v,
+    }
+}
+
+pub(crate) fn least(a: usize, b: usize) -> usize
+    ensures { λ r. ⌜ r ≡ min a b ⌝ }
+{
+    if a < b { a } else { b }
+}
+
+pub(crate) fn less(a: usize, b: usize) -> usize
+    ensures { λ r. ⌜ r ≡ a - b ⌝ }
+{
+    if b < a { a - b } else { 0 }
+}
+
+// Lays n words from place `from` on, all there, into places that are all there.
+pub(crate) fn lay_in(row: &mut [u32], at: usize, words: &[u32], from: usize, n: usize)
+    requires { ⌜ (at + n ≤ length (now row)) × (n ≤ length (now words) - from) ⌝ }
+    ensures { λ _. ⌜ now (row .exit) ≡ sets (now (row .entry)) at (numbersFrom (now (words .entry)) from n) ⌝ }
+{
+    let mut i: usize = 0;
+    while i < n {
+        let w = words[from + i];
+        row[at + i] = w;
+        i = i + 1;
+    }
+}
+
+// The 28 words from a place on, 0 past the row's end. Few calls come here: the loop is as long as what is there, so that it stays a loop and
+// does not spread over the ways that read a row whole.
+pub(crate) fn words_from(row: &[u32], at: usize) -> [u32; 28]
+    ensures { λ r. ⌜ r ≡ numbersFrom (now (row .entry)) at 28 ⌝ }
+{
+    let mut words = [0u32; 28];
+    let there = less(row.len(), at);
+    let n = least(28, there);
+    lay_in(&mut words, 0, row, at, n);
+    words
+}
+
+// A fragment whose words are all there.
+pub(crate) fn fragment_in(row: &[u32], at: usize) -> Fragment
+    requires { ⌜ at + 28 ≤ length (now row) ⌝ }
+    ensures { λ r. ⌜ r ≡ fragmentAt (now (row .entry)) at ⌝ }
+{
+    let flags = row[at + 1];
+    let coordinator = row[at + 2];
+    let count = row[at + 3];
+    let o0 = op_in(row, at + 4);
+    let o1 = op_in(row, at + 7);
+    let o2 = op_in(row, at + 10);
+    let o3 = op_in(row, at + 13);
+    let o4 = op_in(row, at + 16);
+    let o5 = op_in(row, at + 19);
+    let o6 = op_in(row, at + 22);
+    let o7 = op_in(row, at + 25);
+    let ops = [o0, o1, o2, o3, o4, o5, o6, o7];
+    Fragment {
+        flags: flags,
+        coordinator: coordinator,
+        count: count,
+        row: ops,
     }
 }
 
@@ -43,24 +105,11 @@ pub fn fragment_at(row: &[u32], b: u32) -> Fragment
     ensures { λ r. ⌜ r ≡ fragmentAt (now (row .entry)) b ⌝ }
 {
     let at = b as usize;
-    let flags = operations::number_at(row, at + 1);
-    let coordinator = operations::number_at(row, at + 2);
-    let count = operations::number_at(row, at + 3);
-    let o0 = op_at(row, at + 4);
-    let o1 = op_at(row, at + 7);
-    let o2 = op_at(row, at + 10);
-    let o3 = op_at(row, at + 13);
-    let o4 = op_at(row, at + 16);
-    let o5 = op_at(row, at + 19);
-    let o6 = op_at(row, at + 22);
-    let o7 = op_at(row, at + 25);
-    let ops = [o0, o1, o2, o3, o4, o5, o6, o7];
-    Fragment {
-        flags: flags,
-        coordinator: coordinator,
-        count: count,
-        row: ops,
+    if at + 28 <= row.len() {
+        return fragment_in(row, at);
     }
+    let words = words_from(row, at);
+    fragment_in(&words, 0)
 }
 
 // The 28 words of a live transaction.
@@ -108,14 +157,54 @@ pub fn row_words(number: u32, f: Fragment) -> [u32; 28]
     ]
 }
 
-// Lays the first n words into a row from place `at` on; what would stand past its end is not kept.
-pub fn lay(row: &mut [u32], at: u32, words: &[u32], n: u32)
+// Lays words of which some, or their places, may stand past an end.
+pub(crate) fn lay_past(row: &mut [u32], at: u32, words: &[u32], n: u32)
     ensures { λ _. ⌜ now (row .exit) ≡ sets (now (row .entry)) at (numbersFrom (now (words .entry)) 0 n) ⌝ }
 {
     let mut i: usize = 0;
     while i < n as usize {
         let w = operations::number_at(words, i);
         operations::put_at(row, at as usize + i, w);
+        i = i + 1;
+    }
+}
+
+// Lays the first n words into a row from place `at` on; what would stand past its end is not kept.
+pub fn lay(row: &mut [u32], at: u32, words: &[u32], n: u32)
+    ensures { λ _. ⌜ now (row .exit) ≡ sets (now (row .entry)) at (numbersFrom (now (words .entry)) 0 n) ⌝ }
+{
+    let start = at as usize;
+    let count = n as usize;
+    if count <= words.len() {
+        if start + count <= row.len() {
+            lay_in(row, start, words, 0, count);
+            return;
+        }
+    }
+    lay_past(row, at, words, n);
+}
+
+// Moves n words, all there, from k places further on to a row's start.
+pub(crate) fn move_down(row: &mut [u32], k: usize, n: usize)
+    requires { ⌜ n ≤ length (now row) - k ⌝ }
+    ensures { λ _. ⌜ now (row .exit) ≡ sets (now (row .entry)) 0 (numbersFrom (now (row .entry)) k n) ⌝ }
+{
+    let mut i: usize = 0;
+    while i < n {
+        let w = row[k + i];
+        row[i] = w;
+        i = i + 1;
+    }
+}
+
+// Clears the places of a row from `from` to before `to`.
+pub(crate) fn blank(row: &mut [u32], from: usize, to: usize)
+    requires { ⌜ (from ≤ to) × (to ≤ length (now row)) ⌝ }
+    ensures { λ _. ⌜ now (row .exit) ≡ sets (now (row .entry)) from (zeros (to - from)) ⌝ }
+{
+    let mut i = from;
+    while i < to {
+        row[i] = 0;
         i = i + 1;
     }
 }
@@ -128,12 +217,13 @@ pub fn shift(row: &mut [u32], k: u32, m: u32)
     if k == 0 {
         return;
     }
-    let mut i: usize = 0;
-    while i < m as usize {
-        let w = operations::number_at(row, k as usize + i);
-        operations::put_at(row, i, w);
-        i = i + 1;
-    }
+    let from = k as usize;
+    let len = row.len();
+    let stop = least(m as usize, len);
+    let there = less(len, from);
+    let n = least(there, stop);
+    move_down(row, from, n);
+    blank(row, n, stop);
 }
 
 // Clears a row from place n on.

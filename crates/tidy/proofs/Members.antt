@@ -19,8 +19,8 @@ use Rattle.model.proofs.Chain.{All}
 use Rattle.model.proofs.Sound.{SoundOne, Sound, sound-parts, entries-most}
 use Rattle.operations.specs.Laid.{padded, flat, entriesOf}
 use Rattle.record.specs.Words.{rowWords, allRows, stateWord, replyWord, heldOutcome, outcomeWords, runWords, allRuns, liveRows}
-use Rattle.record.specs.View.{fragmentAt, waitingOf, numbersFrom, stateOf, replyOf, memberAt, uncommittedOf, viewOf}
-use Rattle.record.proofs.Rows.{length-numbers, numbers-same, getD-numbers, getD-sets-after, getD-padded, zeros}
+use Rattle.record.specs.View.{fragmentAt, waitingOf, numbersFrom, zeros, stateOf, replyOf, memberAt, uncommittedOf, viewOf}
+use Rattle.record.proofs.Rows.{length-numbers, numbers-same, getD-numbers, getD-sets-after, getD-padded}
 use Rattle.tidy.specs.Runs.{used, tidyRun, tidyRuns, entriesFrom}
 use Rattle.tidy.specs.Tidied.{Canonical}
 use Rattle.tidy.proofs.Loops.{used-sent, used-held, used-most}

@@ -6,10 +6,10 @@ use lib.Seq.{sets}
 use Rattle.record.specs.View.{numbersFrom}
 use Rattle.record.proofs.Rows.{lay-turn, lay-start, lay-end}
 use borrow.Author.Needs.{needs}
-use Rattle.record.proofs.lay.Statement.{statement}
-use Rattle.record.proofs.lay.Tie as tie
-use Rattle.record.proofs.lay.Reads as reads
-use Rattle.record.proofs.lay.Lts as lts
+use Rattle.record.proofs.lay_past.Statement.{statement}
+use Rattle.record.proofs.lay_past.Tie as tie
+use Rattle.record.proofs.lay_past.Reads as reads
+use Rattle.record.proofs.lay_past.Lts as lts
 use Rattle.operations.proofs.number_at.Reads as number-at-reads
 use Rattle.operations.proofs.put_at.Reads as put-at-reads
 
@@ -59,8 +59,8 @@ returns c = let l = c .before .loop in
     let a = c .before .before .before .before .args in
     lay-end (l .row) (a .words .now) _ (a .at) (a .n) (l .i) (c .loop-test .left) (l .inv .2)
 
-pub lay-spec : {M : Type 1} → statement M
-lay-spec =
+pub lay-past-spec : {M : Type 1} → statement M
+lay-past-spec =
     tie.close
     (tie.spec
     Inv-loop

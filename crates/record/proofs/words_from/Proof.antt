@@ -1,0 +1,38 @@
+use Prim.Native.Nat.{min}
+use mathlib.Core.Path.{ap, _∙_}
+use Rattle.record.proofs.Rows.{copied-out}
+use borrow.Author.Needs.{needs}
+use Rattle.record.proofs.words_from.Statement.{statement}
+use Rattle.record.proofs.words_from.Tie as tie
+use Rattle.record.proofs.words_from.Reads as reads
+use Rattle.record.proofs.words_from.Lts as lts
+use Rattle.record.proofs.lay_in.Reads as lay-in-reads
+use Rattle.record.proofs.least.Reads as least-reads
+use Rattle.record.proofs.less.Reads as less-reads
+
+-- src/lib.rt:72:9
+less-requires : tie.Need-less-requires
+less-requires c κs = search needs
+
+-- src/lib.rt:73:9
+least-requires : tie.Need-least-requires
+least-requires c κs = search needs
+
+-- src/lib.rt:74:12
+slice-aggregate-lay-in : tie.Need-slice-aggregate-lay-in
+slice-aggregate-lay-in c = search needs
+
+-- src/lib.rt:74:5
+lay-in-requires : tie.Need-lay-in-requires
+lay-in-requires c κs = search needs
+
+-- src/lib.rt:68:1
+returns : tie.Need-returns
+returns c = let a = c .before .before .before .before .before .before .args in
+    let n = c .before .before .before .least in
+    c .before .lay-in .ensures ∙ copied-out (a .row .now) (a .at) 28 (n .result) (n .ensures ∙ ap (min 28) (c .before .before .before .before .less .ensures))
+
+pub words-from-spec : {M : Type 1} → statement M
+words-from-spec =
+    tie.close
+    (tie.spec less-requires least-requires slice-aggregate-lay-in lay-in-requires returns)
