@@ -20,6 +20,13 @@ use record::Record;
 
 mod queues;
 
+// The record's three rows, by name.
+pub type Live = [u32; 1792];
+
+pub type Runs = [u32; 256];
+
+pub type Undone = [u32; 368];
+
 // What a call returns: the number, the count of answers, and the next record.
 pub struct Called {
     pub number: u32,
@@ -189,9 +196,9 @@ pub fn turn(
     largest: u32,
     uncommitted: u32,
     waiting: u32,
-    live: &mut [u32; 1792],
-    runs: &mut [u32; 256],
-    undo: &mut [u32; 368],
+    live: &mut Live,
+    runs: &mut Runs,
+    undo: &mut Undone,
     cells: &mut [u32],
     event: Event,
     room: &mut [u32],

@@ -1,13 +1,31 @@
 -- Refusal 1 as one walk after the other asks it of a record's words, grouped by row. A read past a row's end gives 0.
 use Prim.Native.Nat.{ℕ, zero, suc, _+_, _*_, _%_}
 use mathlib.Core.Bool.{Bool, true, _&&_, _||_}
-use mathlib.Core.List.{List}
+use mathlib.Core.List.{List, [], _∷_}
 use lib.Dec.{leb, ltb, eqb}
 use lib.ListN.{getD}
-use Rattle.model.specs.Refusals.{every, storable}
+use Rattle.model.specs.Refusals.{every, storable, formedOp, formedKind}
+use Rattle.model.specs.declared.Op.{Op}
+use Rattle.model.specs.declared.Fragment.{Fragment}
 use Rattle.model.specs.declared.Undo.{Undo}
 use Rattle.operations.specs.Laid.{entriesOf}
-use Rattle.record.specs.View.{fragmentAt}
+use Rattle.record.specs.View.{opAt, fragmentAt}
+
+abbrev pub isZero : ℕ → Bool
+isZero n = eqb n 0
+
+-- n operations, the first of which starts at b
+unfoldable pub opsFrom : List ℕ → ℕ → ℕ → List Op
+opsFrom l b zero = []
+opsFrom l b (suc n) = opAt l b ∷ opsFrom l (b + 3) n
+
+-- an operation that 4 and 5 would not refuse
+abbrev pub storableOp : ℕ → Op → Bool
+storableOp cells o = formedOp o && ltb (o .cell) cells
+
+-- a fragment's kind by its two words: it reads no other
+abbrev pub kindOk : ℕ → ℕ → Bool
+kindOk flags coordinator = formedKind (record { flags = flags; coordinator = coordinator; count = 0; row = [] })
 
 -- the live row that starts at b: its number above the last one, its fragment storable
 unfoldable pub rowOk : ℕ → List ℕ → ℕ → ℕ → Bool

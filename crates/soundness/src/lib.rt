@@ -1,10 +1,129 @@
 // Refusal 1 of document 01: whether a record of any words is sound. Each walk over a row of words asks what it can of one row at a time; every
 // function is total, and a read past a row's end gives 0.
 ghost use mathlib.Core.Path.{_≡_};
-ghost use Prim.Native.Nat.{_+_, _*_, _≤_};
-ghost use Rattle.model.specs.Refusals.{sound};
-ghost use Rattle.record.specs.View.{viewOf};
-ghost use Rattle.soundness.specs.Groups.{rowOk, liveFrom, replyOk, runOk, frontOk, nextOk, behindFrom, membersOk, totalFrom, undoOk};
+ghost use Prim.Native.Nat.{_+_, _*_, _-_, _≤_, max};
+ghost use lib.ListN.{length};
+ghost use Rattle.model.specs.Refusals.{every, storable, sound};
+ghost use Rattle.record.specs.View.{fragmentAt, numbersFrom, viewOf};
+ghost use Rattle.soundness.specs.Groups.{isZero, opsFrom, storableOp, kindOk, rowOk, liveFrom, replyOk, runOk, frontOk, nextOk, behindFrom, membersOk, totalFrom, undoOk};
+
+pub(crate) fn larger(a: u32, b: u32) -> u32
+    ensures { λ r. ⌜ r ≡ max a b ⌝ }
+{
+    if a < b { b } else { a }
+}
+
+use model::Op;
+
+// "unused place not zero": are the words of a row from `from` to before `to` all 0. The loop has no way out before its end, so that it can
+// take several words at once.
+pub(crate) fn all_zero(row: &[u32], from: usize, to: usize) -> bool
+    requires { ⌜ (from ≤ to) × (to ≤ length (now row)) ⌝ }
+    ensures { λ r. ⌜ r ≡ every isZero (numbersFrom (now (row .entry)) from (to - from)) ⌝ }
+{
+    let mut most: u32 = 0;
+    let mut i = from;
+    while i < to {
+        let w = row[i];
+        most = larger(most, w);
+        i = i + 1;
+    }
+    most == 0
+}
+
+// An operation that 4 and 5 would not refuse.
+pub(crate) fn op_ok(o: Op, cells: u32) -> bool
+    ensures { λ r. ⌜ r ≡ storableOp cells o ⌝ }
+{
+    if operations::is_formed_op(o) {
+        o.cell < cells
+    } else {
+        false
+    }
+}
+
+// The n operations whose words start at b.
+pub(crate) fn used_ok(row: &[u32], b: usize, n: usize, cells: u32) -> bool
+    requires { ⌜ (n ≤ 8) × (b + 3 * n ≤ length (now row)) ⌝ }
+    ensures { λ r. ⌜ r ≡ every (storableOp cells) (opsFrom (now (row .entry)) b n) ⌝ }
+{
+    let mut at = b;
+    let mut left = n;
+    while 0 < left {
+        let c = row[at];
+        let e = row[at + 1];
+        let v = row[at + 2];
+        let o = Op {
+            code: c,
+            cell: e,
+            amount: v,
+        };
+        if !op_ok(o, cells) {
+            return false;
+        }
+        at = at + 3;
+        left = left - 1;
+    }
+    true
+}
+
+// "single not last, coordinator of the wrong range", of a fragment's two words.
+pub(crate) fn kind_ok(flags: u32, coordinator: u32) -> bool
+    ensures { λ r. ⌜ r ≡ kindOk flags coordinator ⌝ }
+{
+    if flags % 2 == 1 {
+        if coordinator < 1 {
+            return false;
+        }
+        return coordinator <= model::MOST_COORDINATOR;
+    }
+    if flags / 2 % 2 == 1 {
+        return coordinator == 0;
+    }
+    false
+}
+
+// "a stored fragment that 4 or 5 would refuse", all its words there: asked where they stand, with no fragment made of them.
+pub(crate) fn storable_in(live: &[u32], at: usize, cells: u32) -> bool
+    requires { ⌜ at + 28 ≤ length (now live) ⌝ }
+    ensures { λ r. ⌜ r ≡ storable cells (fragmentAt (now (live .entry)) at) ⌝ }
+{
+    let count = live[at + 3];
+    if model::MOST_OPERATIONS < count {
+        return false;
+    }
+    if count < 1 {
+        return false;
+    }
+    let n = count as usize;
+    if !used_ok(live, at + 4, n, cells) {
+        return false;
+    }
+    if !all_zero(live, at + 4 + 3 * n, at + 28) {
+        return false;
+    }
+    let flags = live[at + 1];
+    if 3 < flags {
+        return false;
+    }
+    let coordinator = live[at + 2];
+    kind_ok(flags, coordinator)
+}
+
+// The same of words that may stand past the row's end.
+pub(crate) fn is_storable(live: &[u32], b: u32, cells: u32) -> bool
+    ensures { λ r. ⌜ r ≡ storable cells (fragmentAt (now (live .entry)) b) ⌝ }
+{
+    let at = b as usize;
+    if at + 28 <= live.len() {
+        return storable_in(live, at, cells);
+    }
+    let f = record::fragment_at(live, b);
+    if !operations::is_formed(f) {
+        return false;
+    }
+    operations::is_inside(cells, f)
+}
 
 // "live numbers 0, not rising", "a stored fragment that 4 or 5 would refuse": of the live row that starts at b, behind the number `low`.
 pub(crate) fn row_ok(live: &[u32], b: u32, low: u32, cells: u32) -> bool
@@ -14,11 +133,7 @@ pub(crate) fn row_ok(live: &[u32], b: u32, low: u32, cells: u32) -> bool
     if number <= low {
         return false;
     }
-    let f = record::fragment_at(live, b);
-    if !operations::is_formed(f) {
-        return false;
-    }
-    operations::is_inside(cells, f)
+    is_storable(live, b, cells)
 }
 
 // The first n live rows: numbers that rise to at most the largest accepted, fragments that may be stored.

@@ -1,0 +1,166 @@
+-- A stored fragment asked where its words stand: its operations by threes, its unused places as words.
+use Prim.Native.Nat.{ℕ, zero, suc, _+_, _*_, _-_, _≤_, _<_, max}
+use native.Mathlib.Omega.{arith}
+use mathlib.Core.Path.{_≡_, refl, sym, ap, _∙_}
+use mathlib.Core.Bool.{Bool, true, false, _&&_, true≢false}
+use mathlib.Core.List.{List, [], _∷_, _++_}
+use borrow.Author.Tests.{eq-eqb, ne-eqb, eqb-true, lt-leb}
+use lib.Dec.{leb, ltb, eqb}
+use lib.ListN.{getD, take, drop}
+use Rattle.model.specs.Limits.{mostOperations}
+use Rattle.model.specs.Operations.{operations, multi, last}
+use Rattle.model.specs.Refusals.{every, formedOp, blankOp, formedKind, formed, inside, storable}
+use Rattle.model.specs.declared.Op.{Op}
+use Rattle.record.specs.View.{opAt, fragmentAt, numbersFrom}
+use Rattle.record.proofs.Rows.{numbers-snoc}
+use Rattle.soundness.specs.Groups.{isZero, opsFrom, storableOp, kindOk}
+
+-- the eight operations of a fragment, by threes
+row-ops : (l : List ℕ) (at : ℕ) → fragmentAt l at .row ≡ opsFrom l (at + 4) 8
+unfolding fragmentAt opsFrom
+row-ops l at =
+    let a : at + 7 ≡ at + 4 + 3 = omega arith in
+    let b : at + 10 ≡ at + 4 + 3 + 3 = omega arith in
+    let c : at + 13 ≡ at + 4 + 3 + 3 + 3 = omega arith in
+    let d : at + 16 ≡ at + 4 + 3 + 3 + 3 + 3 = omega arith in
+    let e : at + 19 ≡ at + 4 + 3 + 3 + 3 + 3 + 3 = omega arith in
+    let f : at + 22 ≡ at + 4 + 3 + 3 + 3 + 3 + 3 + 3 = omega arith in
+    let g : at + 25 ≡ at + 4 + 3 + 3 + 3 + 3 + 3 + 3 + 3 = omega arith in
+    λ i. opAt l (at + 4) ∷ opAt l (a i) ∷ opAt l (b i) ∷ opAt l (c i) ∷ opAt l (d i) ∷ opAt l (e i) ∷ opAt l (f i) ∷ opAt l (g i) ∷ []
+
+take-ops : (l : List ℕ) (b n m : ℕ) → take n (opsFrom l b (n + m)) ≡ opsFrom l b n
+unfolding opsFrom
+take-ops l b zero m = refl
+take-ops l b (suc n) m = let e : suc n + m ≡ suc (n + m) = omega arith in ap (λ (x : ℕ). take (suc n) (opsFrom l b x)) e ∙ ap {B = List Op} (λ (x : List Op). opAt l b ∷ x) (take-ops l (b + 3) n m)
+
+drop-ops : (l : List ℕ) (b n m : ℕ) → drop n (opsFrom l b (n + m)) ≡ opsFrom l (b + 3 * n) m
+unfolding opsFrom
+drop-ops l b zero m =
+    let e : 0 + m ≡ m = omega arith in
+    let p : b ≡ b + 3 * 0 = omega arith in
+    λ i. opsFrom l (p i) (e i)
+drop-ops l b (suc n) m =
+    let e : suc n + m ≡ suc (n + m) = omega arith in
+    let p : b + 3 + 3 * n ≡ b + 3 * suc n = omega arith in
+    ap (λ (x : ℕ). drop (suc n) (opsFrom l b x)) e ∙ drop-ops l (b + 3) n m ∙ ap (λ (x : ℕ). opsFrom l x m) p
+
+three : (a b c r : Bool) → ((a && b && c) && r) ≡ (a && (b && (c && r)))
+three true true true r = refl
+three true true false r = refl
+three true false c r = refl
+three false b c r = refl
+
+-- places that are blank, as words that are zero
+blank-words : (l : List ℕ) (b n : ℕ) → every blankOp (opsFrom l b n) ≡ every isZero (numbersFrom l b (3 * n))
+unfolding opsFrom numbersFrom
+blank-words l b zero = refl
+blank-words l b (suc n) =
+    let e : suc (suc (suc (3 * n))) ≡ 3 * suc n = omega arith in
+    let p : b + 1 + 1 ≡ b + 2 = omega arith in
+    let q : b + 3 ≡ b + 1 + 1 + 1 = omega arith in
+    three (isZero (getD l b 0)) (isZero (getD l (b + 1) 0)) (isZero (getD l (b + 2) 0)) (every blankOp (opsFrom l (b + 3) n))
+    ∙ (λ i. isZero (getD l b 0) && (isZero (getD l (b + 1) 0) && (isZero (getD l (sym p i) 0) && (blank-words l (b + 3) n ∙ ap (λ (x : ℕ). every isZero (numbersFrom l x (3 * n))) q) i)))
+    ∙ ap (λ (x : ℕ). every isZero (numbersFrom l b x)) e
+
+four : (a c r s : Bool) → ((a && c) && (r && s)) ≡ ((a && r) && (c && s))
+four true true r s = refl
+four true false true s = refl
+four true false false s = refl
+four false c r s = refl
+
+both : (ct : ℕ) (os : List Op) → (every formedOp os && every (λ (o : Op). ltb (o .cell) ct) os) ≡ every (storableOp ct) os
+both ct [] = refl
+both ct (o ∷ os) = four (formedOp o) (every formedOp os) (ltb (o .cell) ct) (every (λ (o : Op). ltb (o .cell) ct) os) ∙ ap (λ (x : Bool). storableOp ct o && x) (both ct os)
+
+shuffle : (p q a b f k i : Bool) → ((p && q && a && b && f && k) && i) ≡ (p && q && (a && i) && b && f && k)
+shuffle false q a b f k i = refl
+shuffle true false a b f k i = refl
+shuffle true true false b f k i = refl
+shuffle true true true true true true true = refl
+shuffle true true true true true true false = refl
+shuffle true true true true true false true = refl
+shuffle true true true true true false false = refl
+shuffle true true true true false k true = refl
+shuffle true true true true false k false = refl
+shuffle true true true false f k true = refl
+shuffle true true true false f k false = refl
+
+-- all that is asked of a stored fragment, where its words stand
+pub stored-by : (l : List ℕ) (at ct n : ℕ) → getD l (at + 3) 0 ≡ n → n ≤ 8
+    → storable ct (fragmentAt l at) ≡ (leb 1 n && leb n 8 && every (storableOp ct) (opsFrom l (at + 4) n) && every isZero (numbersFrom l (at + 4 + 3 * n) (24 - 3 * n)) && leb (getD l (at + 1) 0) 3 && kindOk (getD l (at + 1) 0) (getD l (at + 2) 0))
+unfolding formed inside operations fragmentAt multi last
+stored-by l at ct n e h =
+    let m : n + (8 - n) ≡ 8 = omega arith in
+    let w : 3 * (8 - n) ≡ 24 - 3 * n = omega arith in
+    let ops : fragmentAt l at .row ≡ opsFrom l (at + 4) (n + (8 - n)) = row-ops l at ∙ ap (opsFrom l (at + 4)) (sym m) in
+    let used : take (getD l (at + 3) 0) (fragmentAt l at .row) ≡ opsFrom l (at + 4) n = (λ i. take (e i) (ops i)) ∙ take-ops l (at + 4) n (8 - n) in
+    let rest : drop (getD l (at + 3) 0) (fragmentAt l at .row) ≡ opsFrom l (at + 4 + 3 * n) (8 - n) = (λ i. drop (e i) (ops i)) ∙ drop-ops l (at + 4) n (8 - n) in
+    let blank : every blankOp (drop (getD l (at + 3) 0) (fragmentAt l at .row)) ≡ every isZero (numbersFrom l (at + 4 + 3 * n) (24 - 3 * n)) =
+    ap (every blankOp) rest ∙ blank-words l (at + 4 + 3 * n) (8 - n) ∙ ap (λ (x : ℕ). every isZero (numbersFrom l (at + 4 + 3 * n) x)) w in
+    let k : Bool = kindOk (getD l (at + 1) 0) (getD l (at + 2) 0) in
+    let f : Bool = leb (getD l (at + 1) 0) 3 in
+    (λ i. (leb 1 (e i) && leb (e i) 8 && every formedOp (used i) && blank i && f && k) && every (λ (o : Op). ltb (o .cell) ct) (used i))
+    ∙ shuffle (leb 1 n) (leb n 8) (every formedOp (opsFrom l (at + 4) n)) (every isZero (numbersFrom l (at + 4 + 3 * n) (24 - 3 * n))) f k (every (λ (o : Op). ltb (o .cell) ct) (opsFrom l (at + 4) n))
+    ∙ ap (λ (x : Bool). leb 1 n && leb n 8 && x && every isZero (numbersFrom l (at + 4 + 3 * n) (24 - 3 * n)) && f && k) (both ct (opsFrom l (at + 4) n))
+
+-- the same from each answer
+pub stored-is : (l : List ℕ) (at ct n : ℕ) → getD l (at + 3) 0 ≡ n → n ≤ 8 → (p q a z f k : Bool) → leb 1 n ≡ p → leb n 8 ≡ q → every (storableOp ct) (opsFrom l (at + 4) n) ≡ a
+    → every isZero (numbersFrom l (at + 4 + 3 * n) (at + 28 - (at + 4 + 3 * n))) ≡ z → leb (getD l (at + 1) 0) 3 ≡ f → kindOk (getD l (at + 1) 0) (getD l (at + 2) 0) ≡ k
+    → (p && q && a && z && f && k) ≡ storable ct (fragmentAt l at)
+stored-is l at ct n e h p q a z f k ep eq ea ez ef ek =
+    let w : 24 - 3 * n ≡ at + 28 - (at + 4 + 3 * n) = omega arith in
+    sym (stored-by l at ct n e h ∙ (λ i. ep i && eq i && ea i && (ap (λ (x : ℕ). every isZero (numbersFrom l (at + 4 + 3 * n) x)) w ∙ ez) i && ef i && ek i))
+
+-- "operations not 1 to 8"
+pub stored-many : (l : List ℕ) (at ct : ℕ) → 8 < getD l (at + 3) 0 → false ≡ storable ct (fragmentAt l at)
+unfolding formed fragmentAt
+stored-many l at ct h = go (leb 1 (getD l (at + 3) 0)) _ _ _ _ _ ∙ ap (λ (x : Bool). (leb 1 (getD l (at + 3) 0) && x && every formedOp (operations (fragmentAt l at)) && every blankOp (drop (getD l (at + 3) 0) (fragmentAt l at .row)) && leb (getD l (at + 1) 0) 3 && formedKind (fragmentAt l at)) && inside ct (fragmentAt l at)) (sym (lt-leb (getD l (at + 3) 0) 8 h))
+  where
+    go : (p a z f k i : Bool) → false ≡ ((p && false && a && z && f && k) && i)
+    go true a z f k i = refl
+    go false a z f k i = refl
+
+-- one turn of the walk over operations
+module _ (ct : ℕ) (l : List ℕ) (b left : ℕ) (whole : Bool) (inv : every (storableOp ct) (opsFrom l b left) ≡ whole) where
+  module _ (more : 0 < left) where
+    used-next : (storableOp ct (opAt l b) && every (storableOp ct) (opsFrom l (b + 3) (left - 1))) ≡ whole
+    unfolding opsFrom
+    used-next = let e : suc (left - 1) ≡ left = omega arith in ap (λ (n : ℕ). every (storableOp ct) (opsFrom l b n)) e ∙ inv
+
+    pub used-on : storableOp ct (opAt l b) ≡ true → every (storableOp ct) (opsFrom l (b + 3) (left - 1)) ≡ whole
+    used-on t = ap (λ (x : Bool). x && every (storableOp ct) (opsFrom l (b + 3) (left - 1))) (sym t) ∙ used-next
+
+    pub used-off : storableOp ct (opAt l b) ≡ false → false ≡ whole
+    used-off t = ap (λ (x : Bool). x && every (storableOp ct) (opsFrom l (b + 3) (left - 1))) (sym t) ∙ used-next
+
+  pub used-end : left ≤ 0 → true ≡ whole
+  unfolding opsFrom
+  used-end h = let e : 0 ≡ left = omega arith in ap (λ (n : ℕ). every (storableOp ct) (opsFrom l b n)) e ∙ inv
+
+-- one turn of the walk over words
+every-snoc : (l : List ℕ) (w : ℕ) → every isZero (l ++ (w ∷ [])) ≡ (isZero w && every isZero l)
+every-snoc [] w = refl
+every-snoc (x ∷ l) w = ap (λ (y : Bool). isZero x && y) (every-snoc l w) ∙ swap (isZero x) (isZero w) (every isZero l)
+  where
+    swap : (a b r : Bool) → (a && (b && r)) ≡ (b && (a && r))
+    swap true b r = refl
+    swap false true r = refl
+    swap false false r = refl
+
+clash : {n : ℕ} → eqb n 0 ≡ false → n ≡ 0 → ⊥
+clash {n} f z = true≢false (sym (eq-eqb n 0 z) ∙ f)
+
+zero-max : (a w : ℕ) → isZero (max a w) ≡ (isZero w && isZero a)
+zero-max a w = go (eqb w 0) (eqb a 0) refl refl
+  where
+    go : (p q : Bool) → eqb w 0 ≡ p → eqb a 0 ≡ q → isZero (max a w) ≡ (p && q)
+    go true true e f = let x : w ≡ 0 = eqb-true w 0 e in let y : a ≡ 0 = eqb-true a 0 f in eq-eqb (max a w) 0 (omega arith)
+    go true false e f = ne-eqb (max a w) 0 (λ z. clash f (let y : a ≡ 0 = omega arith in y))
+    go false q e f = ne-eqb (max a w) 0 (λ z. clash e (let y : w ≡ 0 = omega arith in y))
+
+pub zeros-turn : (l : List ℕ) (from i most w : ℕ) → from ≤ i → w ≡ getD l i 0 → isZero most ≡ every isZero (numbersFrom l from (i - from)) → isZero (max most w) ≡ every isZero (numbersFrom l from (i + 1 - from))
+zeros-turn l from i most w h ew inv =
+    let e : suc (i - from) ≡ i + 1 - from = omega arith in
+    let p : i ≡ from + (i - from) = omega arith in
+    zero-max most w ∙ (λ j. isZero ((ew ∙ ap (λ (x : ℕ). getD l x 0) p) j) && inv j) ∙ sym (every-snoc (numbersFrom l from (i - from)) (getD l (from + (i - from)) 0))
+    ∙ ap (every isZero) (sym (numbers-snoc l from (i - from))) ∙ ap (λ (x : ℕ). every isZero (numbersFrom l from x)) e
