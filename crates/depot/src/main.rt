@@ -7,177 +7,329 @@ use model::Fragment;
 use model::Op;
 use record::Record;
 
-// Unsound records, in this order: a cell count above 4,096; 17 uncommitted; 65 live; counts that overflow; nine fragments run; 185 undo entries; a live number 0; numbers not rising; a number above the largest; a stored fragment that 4 refuses: a flag; a code; an amount of a read; a used unused place; no operation; a single with a coordinator; a multi with none; one that 5 refuses; no fragment run; one behind the front with two runs; a front that is a single; a front that holds its answer; a single whose answer is not held; an unfinished one that is not the last; nine held numbers; a held place 9; an undo cell outside; 17 entries of two fragments; nine entries of one; a state that stands for nothing; a reply that stands for nothing.
-const UNSOUND_PLACE: [u32; 30] = [
-    0,
-    2,
-    3,
-    2,
-    1796,
-    1799,
-    4,
-    32,
-    144,
-    117,
-    120,
-    122,
-    129,
-    119,
-    34,
-    62,
-    149,
-    1828,
-    1828,
-    5,
-    1798,
-    1814,
-    1813,
-    1817,
-    1848,
-    2062,
-    1799,
-    1847,
-    1845,
-    1846,
+// What a case changes in the record of `base`: a word at a place, and one more. Place 2420 is none.
+struct Change {
+    place: u32,
+    word: u32,
+    place_too: u32,
+    word_too: u32,
+}
+
+// Unsound records, by the clauses of refusal 1.
+const UNSOUND: [Change; 30] = [
+    // a cell count above 4,096
+    Change {
+        place: 0,
+        word: 4097,
+        place_too: 2420,
+        word_too: 0,
+    },
+    // 17 uncommitted
+    Change {
+        place: 2,
+        word: 17,
+        place_too: 3,
+        word_too: 0,
+    },
+    // 65 live
+    Change {
+        place: 3,
+        word: 61,
+        place_too: 2420,
+        word_too: 0,
+    },
+    // counts that overflow
+    Change {
+        place: 2,
+        word: 4294967295,
+        place_too: 3,
+        word_too: 4294967295,
+    },
+    // nine fragments run
+    Change {
+        place: 1796,
+        word: 9,
+        place_too: 2420,
+        word_too: 0,
+    },
+    // 185 undo entries
+    Change {
+        place: 1799,
+        word: 185,
+        place_too: 2420,
+        word_too: 0,
+    },
+    // a live number 0
+    Change {
+        place: 4,
+        word: 0,
+        place_too: 2420,
+        word_too: 0,
+    },
+    // numbers not rising
+    Change {
+        place: 32,
+        word: 3,
+        place_too: 2420,
+        word_too: 0,
+    },
+    // a number above the largest
+    Change {
+        place: 144,
+        word: 13,
+        place_too: 2420,
+        word_too: 0,
+    },
+    // a stored fragment that 4 refuses, by a flag
+    Change {
+        place: 117,
+        word: 4,
+        place_too: 2420,
+        word_too: 0,
+    },
+    // the same by a code
+    Change {
+        place: 120,
+        word: 9,
+        place_too: 2420,
+        word_too: 0,
+    },
+    // by an amount of a read
+    Change {
+        place: 122,
+        word: 1,
+        place_too: 2420,
+        word_too: 0,
+    },
+    // by a word in an unused place
+    Change {
+        place: 129,
+        word: 1,
+        place_too: 2420,
+        word_too: 0,
+    },
+    // by no operation
+    Change {
+        place: 119,
+        word: 0,
+        place_too: 2420,
+        word_too: 0,
+    },
+    // by a single with a coordinator
+    Change {
+        place: 34,
+        word: 1,
+        place_too: 2420,
+        word_too: 0,
+    },
+    // by a multi with none
+    Change {
+        place: 62,
+        word: 0,
+        place_too: 2420,
+        word_too: 0,
+    },
+    // a stored fragment that 5 refuses
+    Change {
+        place: 149,
+        word: 4,
+        place_too: 2420,
+        word_too: 0,
+    },
+    // no fragment run
+    Change {
+        place: 1828,
+        word: 0,
+        place_too: 1831,
+        word_too: 0,
+    },
+    // one behind the front with two runs
+    Change {
+        place: 1828,
+        word: 2,
+        place_too: 2420,
+        word_too: 0,
+    },
+    // a front that is a single
+    Change {
+        place: 5,
+        word: 2,
+        place_too: 6,
+        word_too: 0,
+    },
+    // a front that holds its answer
+    Change {
+        place: 1798,
+        word: 1,
+        place_too: 2420,
+        word_too: 0,
+    },
+    // a single whose answer is not held
+    Change {
+        place: 1814,
+        word: 0,
+        place_too: 2420,
+        word_too: 0,
+    },
+    // an unfinished one that is not the last
+    Change {
+        place: 1813,
+        word: 0,
+        place_too: 2420,
+        word_too: 0,
+    },
+    // nine held numbers
+    Change {
+        place: 1817,
+        word: 9,
+        place_too: 2420,
+        word_too: 0,
+    },
+    // a held place 9
+    Change {
+        place: 1848,
+        word: 9,
+        place_too: 2420,
+        word_too: 0,
+    },
+    // an undo cell outside
+    Change {
+        place: 2062,
+        word: 4,
+        place_too: 2420,
+        word_too: 0,
+    },
+    // 17 entries of two fragments
+    Change {
+        place: 1799,
+        word: 17,
+        place_too: 2420,
+        word_too: 0,
+    },
+    // nine entries of one
+    Change {
+        place: 1847,
+        word: 9,
+        place_too: 2420,
+        word_too: 0,
+    },
+    // a state that stands for nothing
+    Change {
+        place: 1845,
+        word: 3,
+        place_too: 2420,
+        word_too: 0,
+    },
+    // a reply that stands for nothing
+    Change {
+        place: 1846,
+        word: 2,
+        place_too: 2420,
+        word_too: 0,
+    },
 ];
 
-const UNSOUND_WORD: [u32; 30] = [
-    4097,
-    17,
-    61,
-    4294967295,
-    9,
-    185,
-    0,
-    3,
-    13,
-    4,
-    9,
-    1,
-    1,
-    0,
-    1,
-    0,
-    4,
-    0,
-    2,
-    2,
-    1,
-    0,
-    0,
-    9,
-    9,
-    4,
-    17,
-    9,
-    3,
-    2,
+// Odd records that no run leaves and that are sound.
+const ODD: [Change; 14] = [
+    // nothing odd
+    Change {
+        place: 2420,
+        word: 0,
+        place_too: 2420,
+        word_too: 0,
+    },
+    // the largest is TOP
+    Change {
+        place: 1,
+        word: 4294967295,
+        place_too: 2420,
+        word_too: 0,
+    },
+    // eight fragments run
+    Change {
+        place: 1796,
+        word: 8,
+        place_too: 2420,
+        word_too: 0,
+    },
+    // no entries
+    Change {
+        place: 1799,
+        word: 0,
+        place_too: 1815,
+        word_too: 0,
+    },
+    // failed ones that own entries
+    Change {
+        place: 1813,
+        word: 2,
+        place_too: 1845,
+        word_too: 2,
+    },
+    // finished without a last fragment
+    Change {
+        place: 1845,
+        word: 1,
+        place_too: 2420,
+        word_too: 0,
+    },
+    // nothing uncommitted, six wait
+    Change {
+        place: 2,
+        word: 0,
+        place_too: 3,
+        word_too: 6,
+    },
+    // three wait behind a finished one
+    Change {
+        place: 2,
+        word: 3,
+        place_too: 3,
+        word_too: 3,
+    },
+    // a held place and numbers
+    Change {
+        place: 1816,
+        word: 8,
+        place_too: 1817,
+        word_too: 8,
+    },
+    // a held answer with none
+    Change {
+        place: 1817,
+        word: 0,
+        place_too: 2420,
+        word_too: 0,
+    },
+    // garbage behind the live ones and the runs
+    Change {
+        place: 172,
+        word: 1,
+        place_too: 1860,
+        word_too: 4294967295,
+    },
+    // garbage behind the entries
+    Change {
+        place: 2064,
+        word: 4294967295,
+        place_too: 2419,
+        word_too: 1,
+    },
+    // garbage in held numbers
+    Change {
+        place: 1820,
+        word: 77,
+        place_too: 1826,
+        word_too: 4294967295,
+    },
+    // garbage of an answer that was sent
+    Change {
+        place: 1800,
+        word: 9,
+        place_too: 1801,
+        word_too: 9,
+    },
 ];
-
-const UNSOUND_PLACE_TOO: [u32; 30] = [
-    2420,
-    3,
-    2420,
-    3,
-    2420,
-    2420,
-    2420,
-    2420,
-    2420,
-    2420,
-    2420,
-    2420,
-    2420,
-    2420,
-    2420,
-    2420,
-    2420,
-    1831,
-    2420,
-    6,
-    2420,
-    2420,
-    2420,
-    2420,
-    2420,
-    2420,
-    2420,
-    2420,
-    2420,
-    2420,
-];
-
-const UNSOUND_WORD_TOO: [u32; 30] = [
-    0,
-    0,
-    0,
-    4294967295,
-    0,
-    0,
-    0,
-    0,
-    0,
-    0,
-    0,
-    0,
-    0,
-    0,
-    0,
-    0,
-    0,
-    0,
-    0,
-    0,
-    0,
-    0,
-    0,
-    0,
-    0,
-    0,
-    0,
-    0,
-    0,
-    0,
-];
-
-// Odd ones that are sound: nothing odd; the largest is TOP; eight fragments run; no entries; failed ones that own entries; finished without a last fragment; nothing uncommitted, six wait; three wait behind a finished one; a held place and numbers; a held answer with none; garbage behind the live ones and the runs; garbage behind the entries; garbage in held numbers; garbage of an answer that was sent.
-const ODD_PLACE: [u32; 14] = [
-    2420,
-    1,
-    1796,
-    1799,
-    1813,
-    1845,
-    2,
-    2,
-    1816,
-    1817,
-    172,
-    2064,
-    1820,
-    1800,
-];
-
-const ODD_WORD: [u32; 14] = [0, 4294967295, 8, 0, 2, 1, 0, 3, 8, 0, 1, 4294967295, 77, 9];
-
-const ODD_PLACE_TOO: [u32; 14] = [
-    2420,
-    2420,
-    2420,
-    1815,
-    1845,
-    2420,
-    3,
-    3,
-    1817,
-    2420,
-    1860,
-    2419,
-    1826,
-    1801,
-];
-
-const ODD_WORD_TOO: [u32; 14] = [0, 0, 0, 0, 2, 0, 6, 3, 8, 0, 4294967295, 1, 4294967295, 9];
 
 // A place of the output, which has 4,096.
 fn place(n: usize) -> u32 {
@@ -306,6 +458,12 @@ fn changed(r: Record, place: u32, word: u32) -> Record {
     }
 }
 
+// The record of a case.
+fn case(r: Record, c: Change) -> Record {
+    let one = changed(r, c.place, c.word);
+    changed(one, c.place_too, c.word_too)
+}
+
 // A call whose record is not kept: its lines, and where they end.
 fn try_call(
     out: &mut [u8],
@@ -334,9 +492,16 @@ fn unsound(out: &mut [u8], from: u32, r: Record, cells: &mut [u32], room: &mut [
     let mut at = from;
     let mut i: usize = 0;
     while i < 30 {
-        let one = changed(r, UNSOUND_PLACE[i], UNSOUND_WORD[i]);
-        let two = changed(one, UNSOUND_PLACE_TOO[i], UNSOUND_WORD_TOO[i]);
-        at = try_call(out, at, i as u32 + 1, two, cells, decision(3, 3), room);
+        let c = UNSOUND[i];
+        at = try_call(
+            out,
+            at,
+            i as u32 + 1,
+            case(r, c),
+            cells,
+            decision(3, 3),
+            room,
+        );
         i = i + 1;
     }
     at
@@ -347,8 +512,8 @@ fn odd(out: &mut [u8], from: u32, r: Record, cells: &mut [u32], room: &mut [u32]
     let mut at = from;
     let mut i: usize = 0;
     while i < 14 {
-        let one = changed(r, ODD_PLACE[i], ODD_WORD[i]);
-        let two = changed(one, ODD_PLACE_TOO[i], ODD_WORD_TOO[i]);
+        let c = ODD[i];
+        let two = case(r, c);
         refill(cells);
         let middle = try_call(out, at, i as u32 + 1, two, cells, decision(2, 3), room);
         refill(cells);
