@@ -9,6 +9,7 @@ use Rattle.model.specs.Limits.{eventWords}
 use Rattle.model.specs.Operations.{Cells, pick}
 use Rattle.model.specs.Refusals.{formed, blank}
 use Rattle.model.specs.declared.Event.{Event}
+use Rattle.model.specs.declared.Scheme.{Scheme}
 use Rattle.model.specs.declared.Fragment.{Fragment}
 use Rattle.model.proofs.Passing.{passed, took}
 use Rattle.refusals.specs.Rest.{callOf}
@@ -30,9 +31,9 @@ nothing-asked true h = true≢false h
 nothing-asked false h = true≢false h
 
 -- "not well formed": an event of another length than 29 words is never accepted
-pub other-length : (r : Record) (l : List ℕ) (cells : Cells) (room : List ℕ) → eqb (length l) eventWords ≡ false → called r (eventOf l) cells room .number ≡ 0 → ⊥
+pub other-length : (σ : Scheme) (r : Record) (l : List ℕ) (cells : Cells) (room : List ℕ) → eqb (length l) eventWords ≡ false → called σ r (eventOf l) cells room .number ≡ 0 → ⊥
 unfolding called stepped eventOf
-other-length r l cells room t h =
-    let p = passed (view r) (callOf (eventOf l) cells room) (took (view r) (callOf (eventOf l) cells room) h) in
+other-length σ r l cells room t h =
+    let p = passed (view r) (callOf σ (eventOf l) cells room) (took (view r) (callOf σ (eventOf l) cells room) h) in
     nothing-asked (leb 1 (getD l 1 0))
     (subst (λ (k : ℕ). not (leb 1 (getD l 1 0) && (eqb k 1 && formed (fragmentAt l 1) || (eqb k 2 || eqb k 3) && blank (fragmentAt l 1))) ≡ false) (sym (kind-by false l t)) (p .four))

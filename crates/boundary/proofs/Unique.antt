@@ -5,6 +5,7 @@ use mathlib.Core.List.{List}
 use Rattle.model.specs.Limits.{mostCells, leastRoom, eventWords}
 use Rattle.model.specs.Operations.{Cells}
 use Rattle.model.specs.declared.Event.{Event}
+use Rattle.model.specs.declared.Scheme.{Scheme}
 use Rattle.model.proofs.Unique.{same}
 use Rattle.record.specs.declared.Record.{Record}
 use Rattle.engine.specs.declared.Called.{Called}
@@ -19,19 +20,16 @@ pub record Outcome : Type 0 where
   pub cells : Cells
   pub room : List ℕ
 
--- of `turn`, and of `harukdalis_call` at the words of its event
-pub call-unique : (r : Record) (v : Event) (lent : Cells) (lentRoom : List ℕ) (a b : Outcome) → answered r v lent lentRoom (a .result) (a .cells) (a .room) → answered r v lent lentRoom (b .result) (b .cells) (b .room) → a ≡ b
-call-unique r v lent lentRoom a b p q = λ i. record {
-  result = same (called r v lent lentRoom) (a .result) (b .result) (p .0) (q .0) i;
-  cells = same (cellsAfter r v lent lentRoom) (a .cells) (b .cells) (p .1) (q .1) i;
-  room = same (roomAfter r v lent lentRoom) (a .room) (b .room) (p .2) (q .2) i;
+-- of `harukdalis_call` and of `harukdalis_call_blocking`, at the words of the event
+pub call-unique : (σ : Scheme) (r : Record) (v : Event) (lent : Cells) (lentRoom : List ℕ) (a b : Outcome) → answered σ r v lent lentRoom (a .result) (a .cells) (a .room) → answered σ r v lent lentRoom (b .result) (b .cells) (b .room) → a ≡ b
+call-unique σ r v lent lentRoom a b p q = λ i. record {
+  result = same (called σ r v lent lentRoom) (a .result) (b .result) (p .0) (q .0) i;
+  cells = same (cellsAfter σ r v lent lentRoom) (a .cells) (b .cells) (p .1) (q .1) i;
+  room = same (roomAfter σ r v lent lentRoom) (a .room) (b .room) (p .2) (q .2) i;
 }
 
 pub start-unique : (n : ℕ) (a b : Fresh) → started n (a .number) (a .next) → started n (b .number) (b .next) → a ≡ b
 start-unique n a b p q = same (freshOf n) a b p q
-
-pub event-of-unique : (words : List ℕ) (a b : Event) → a ≡ eventOf words → b ≡ eventOf words → a ≡ b
-event-of-unique words a b p q = same (eventOf words) a b p q
 
 -- of each function that tells a size
 pub size-unique : (n a b : ℕ) → a ≡ n → b ≡ n → a ≡ b

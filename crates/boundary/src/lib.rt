@@ -2,15 +2,17 @@
 // slices and references, nothing by value; whatever the words hold, each function ends and has said what it did.
 ghost use mathlib.Core.Path.{_≡_};
 ghost use Rattle.model.specs.Limits.{mostCells, leastRoom, eventWords};
+ghost use Rattle.model.specs.declared.Scheme.the-variants.{Speculation, Blocking};
 ghost use Rattle.boundary.specs.Words.{eventOf, answerWords, recordBytes};
 ghost use Rattle.engine.specs.Called.{recordBy, turned};
 ghost use Rattle.boundary.specs.Lent.{started, told, answered};
 use engine::Turned;
 use model::Event;
+use model::Scheme;
 use record::Record;
 
 // The event that words stand for: 29 of them, or one that is not well formed.
-pub fn event_of(words: &[u32]) -> Event
+pub(crate) fn event_of(words: &[u32]) -> Event
     ensures { λ r. ⌜ r ≡ eventOf (now (words .entry)) ⌝ }
 {
     let fragment = record::fragment_at(words, 1);
@@ -29,8 +31,9 @@ pub fn event_of(words: &[u32]) -> Event
     }
 }
 
-// A call on lent rows, with the event in words.
-pub fn turn(
+// A call by a scheme on lent rows, with the event in words.
+pub(crate) fn turn_by(
+    scheme: Scheme,
     count: u32,
     largest: u32,
     uncommitted: u32,
@@ -42,10 +45,11 @@ pub fn turn(
     event: &[u32],
     room: &mut [u32],
 ) -> Turned
-    ensures { λ d. ⌜ answered (recordBy count largest uncommitted waiting (now (live .entry)) (now (runs .entry)) (now (undo .entry))) (eventOf (now (event .entry))) (now (cells .entry)) (now (room .entry)) (turned count d (now (live .exit)) (now (runs .exit)) (now (undo .exit))) (now (cells .exit)) (now (room .exit)) ⌝ }
+    ensures { λ d. ⌜ answered scheme (recordBy count largest uncommitted waiting (now (live .entry)) (now (runs .entry)) (now (undo .entry))) (eventOf (now (event .entry))) (now (cells .entry)) (now (room .entry)) (turned count d (now (live .exit)) (now (runs .exit)) (now (undo .exit))) (now (cells .exit)) (now (room .exit)) ⌝ }
 {
     let v = event_of(event);
     engine::turn(
+        scheme,
         count,
         largest,
         uncommitted,
@@ -55,6 +59,66 @@ pub fn turn(
         undo,
         cells,
         v,
+        room,
+    )
+}
+
+// By speculation.
+pub(crate) fn turn(
+    count: u32,
+    largest: u32,
+    uncommitted: u32,
+    waiting: u32,
+    live: &mut engine::Live,
+    runs: &mut engine::Runs,
+    undo: &mut engine::Undone,
+    cells: &mut [u32],
+    event: &[u32],
+    room: &mut [u32],
+) -> Turned
+    ensures { λ d. ⌜ answered Speculation (recordBy count largest uncommitted waiting (now (live .entry)) (now (runs .entry)) (now (undo .entry))) (eventOf (now (event .entry))) (now (cells .entry)) (now (room .entry)) (turned count d (now (live .exit)) (now (runs .exit)) (now (undo .exit))) (now (cells .exit)) (now (room .exit)) ⌝ }
+{
+    turn_by(
+        Scheme::Speculation,
+        count,
+        largest,
+        uncommitted,
+        waiting,
+        live,
+        runs,
+        undo,
+        cells,
+        event,
+        room,
+    )
+}
+
+// By blocking.
+pub(crate) fn turn_blocking(
+    count: u32,
+    largest: u32,
+    uncommitted: u32,
+    waiting: u32,
+    live: &mut engine::Live,
+    runs: &mut engine::Runs,
+    undo: &mut engine::Undone,
+    cells: &mut [u32],
+    event: &[u32],
+    room: &mut [u32],
+) -> Turned
+    ensures { λ d. ⌜ answered Blocking (recordBy count largest uncommitted waiting (now (live .entry)) (now (runs .entry)) (now (undo .entry))) (eventOf (now (event .entry))) (now (cells .entry)) (now (room .entry)) (turned count d (now (live .exit)) (now (runs .exit)) (now (undo .exit))) (now (cells .exit)) (now (room .exit)) ⌝ }
+{
+    turn_by(
+        Scheme::Blocking,
+        count,
+        largest,
+        uncommitted,
+        waiting,
+        live,
+        runs,
+        undo,
+        cells,
+        event,
         room,
     )
 }
@@ -69,7 +133,7 @@ pub extern "C" fn harukdalis_start(r: &mut Record, cells: u32) -> u32
     f.number
 }
 
-// One call on a lent record.
+// One call on a lent record by speculation.
 #[no_mangle]
 pub extern "C" fn harukdalis_call(
     r: &mut Record,
@@ -78,9 +142,39 @@ pub extern "C" fn harukdalis_call(
     room: &mut [u32],
     answers: &mut u32,
 ) -> u32
-    ensures { λ n. ⌜ answered (now (r .entry)) (eventOf (now (event .entry))) (now (cells .entry)) (now (room .entry)) (told n (now (answers .exit)) (now (r .exit))) (now (cells .exit)) (now (room .exit)) ⌝ }
+    ensures { λ n. ⌜ answered Speculation (now (r .entry)) (eventOf (now (event .entry))) (now (cells .entry)) (now (room .entry)) (told n (now (answers .exit)) (now (r .exit))) (now (cells .exit)) (now (room .exit)) ⌝ }
 {
     let t = turn(
+        r.count,
+        r.largest,
+        r.uncommitted,
+        r.waiting,
+        &mut r.live,
+        &mut r.runs,
+        &mut r.undo,
+        cells,
+        event,
+        room,
+    );
+    r.largest = t.largest;
+    r.uncommitted = t.uncommitted;
+    r.waiting = t.waiting;
+    *answers = t.answers;
+    t.number
+}
+
+// One call on a lent record by blocking: the same but for when a waiting one runs.
+#[no_mangle]
+pub extern "C" fn harukdalis_call_blocking(
+    r: &mut Record,
+    cells: &mut [u32],
+    event: &[u32],
+    room: &mut [u32],
+    answers: &mut u32,
+) -> u32
+    ensures { λ n. ⌜ answered Blocking (now (r .entry)) (eventOf (now (event .entry))) (now (cells .entry)) (now (room .entry)) (told n (now (answers .exit)) (now (r .exit))) (now (cells .exit)) (now (room .exit)) ⌝ }
+{
+    let t = turn_blocking(
         r.count,
         r.largest,
         r.uncommitted,

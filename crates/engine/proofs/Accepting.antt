@@ -16,6 +16,7 @@ use Rattle.model.specs.Steps as Steps
 use Rattle.model.specs.Refusals.{rows, firstOf, refusal, Request, Arrive, Commit, Abort, request, Call, live, new, isFront, sound, storable, taken, largestAfter}
 use Rattle.model.specs.declared.Event.{Event}
 use Rattle.model.specs.declared.Fragment.{Fragment}
+use Rattle.model.specs.declared.Scheme.{Scheme}
 use Rattle.model.proofs.Chain.{All, all-append}
 use Rattle.model.proofs.Passing.{Passed, front-or-new, front-if-known, and-if, and-unless}
 use Rattle.model.proofs.Tests.{both}
@@ -32,7 +33,7 @@ use Rattle.engine.specs.Work.{waitingMore, Work, Left, Small, Fair, Drai
 use Rattle.engine.specs.Ready.{Ready}
 
 -- the rows hold lists whose drain, with the answers sent so far, is q
-pub record Begun (live runs undo room : List ℕ) (cells : Cells) (c : Counts) (room₀ : List ℕ) (q : Queues) : Type 0 where
+pub record Begun (σ : Scheme) (live runs undo room : List ℕ) (cells : Cells) (c : Counts) (room₀ : List ℕ) (q : Queues) : Type 0 where
   pub ct : ℕ
   pub top : ℕ
   pub gone : List Waiting
@@ -42,11 +43,11 @@ pub record Begun (live runs undo room : List ℕ) (cells : Cells) (c : Counts) (
   pub work : Work live runs undo room c gone us ws sent room₀
   pub sound : Sound ct top us ws
   pub small : Small c
-  pub rest : sending sent (Steps.drain cells us ws) ≡ q
+  pub rest : sending sent (Steps.drain σ cells us ws) ≡ q
 
-pub drained-left : (live runs undo room runs′ undo′ room′ : List ℕ) (cells cells′ : Cells) (c c′ : Counts) (room₀ : List ℕ) (q : Queues) → Begun live runs undo room cells c room₀ q
-    → Drained live runs undo room cells c runs′ undo′ room′ cells′ c′ → Left live runs′ undo′ room′ c′ cells′ [] room₀ q
-drained-left live runs undo room runs′ undo′ room′ cells cells′ c c′ room₀ q b d =
+pub drained-left : (σ : Scheme) (live runs undo room runs′ undo′ room′ : List ℕ) (cells cells′ : Cells) (c c′ : Counts) (room₀ : List ℕ) (q : Queues) → Begun σ live runs undo room cells c room₀ q
+    → Drained σ live runs undo room cells c runs′ undo′ room′ cells′ c′ → Left live runs′ undo′ room′ c′ cells′ [] room₀ q
+drained-left σ live runs undo room runs′ undo′ room′ cells cells′ c c′ room₀ q b d =
     let l = d (b .gone) (b .us) (b .ws) (b .sent) room₀ (b .work) (b .ct) (b .top) (b .sound) in
     subst (λ (x : Queues). Left live runs′ undo′ room′ c′ cells′ [] room₀ x) (b .rest) (record { gone = l .gone; work = l .work; stands = l .stands })
 
@@ -61,7 +62,7 @@ small-of live runs undo room c gone us ws sent room₀ ct top w s h k = record {
 
 -- What a ready call has
 
-module _ (live₀ runs undo room : List ℕ) (cells : Cells) (c : Counts) (v : Event) (e : Engine) (rd : Ready live₀ runs undo room cells c v e) where
+module _ (σ : Scheme) (live₀ runs undo room : List ℕ) (cells : Cells) (c : Counts) (v : Event) (e : Engine) (rd : Ready σ live₀ runs undo room cells c v e) where
   parts : Sound (e .count) (e .largest) (e .uncommitted) (e .waiting)
   parts = sound-parts e (not-false (sound e) (rd .passed .one))
 
@@ -87,11 +88,11 @@ module _ (live₀ runs undo room : List ℕ) (cells : Cells) (c : Counts) (v : E
 
 -- Abort
 
-begun-aborted : (live runs undo room runs′ undo′ : List ℕ) (cells cells′ : Cells) (c c′ : Counts) (ct top : ℕ) (us : List Uncommitted) (ws : List Waiting) (n : ℕ) → Work live runs undo room c [] us ws [] room → Sound ct top us ws
+begun-aborted : (σ : Scheme) (live runs undo room runs′ undo′ : List ℕ) (cells cells′ : Cells) (c c′ : Counts) (ct top : ℕ) (us : List Uncommitted) (ws : List Waiting) (n : ℕ) → Work live runs undo room c [] us ws [] room → Sound ct top us ws
     → front (λ (u : Uncommitted). eqb (u .number) n) us ≡ true → Aborted runs undo cells c runs′ undo′ cells′ c′ → c′ .first + c′ .uncommitted + c′ .waiting ≤ 64
-    → Begun live runs′ undo′ room cells′ c′ room (aborted cells us ws)
-begun-aborted live runs undo room runs′ undo′ cells cells′ c c′ ct top [] ws n w s h ab k = absurd (true≢false (sym h))
-begun-aborted live runs undo room runs′ undo′ cells cells′ c c′ ct top (u ∷ us) ws n w s h ab k =
+    → Begun σ live runs′ undo′ room cells′ c′ room (aborted σ cells us ws)
+begun-aborted σ live runs undo room runs′ undo′ cells cells′ c c′ ct top [] ws n w s h ab k = absurd (true≢false (sym h))
+begun-aborted σ live runs undo room runs′ undo′ cells cells′ c c′ ct top (u ∷ us) ws n w s h ab k =
     let a = ab live room [] u us ws [] room w (known-of ct (u ∷ us) (s .each)) in
     let sd : Sound ct top [] (map requeued us ++ ws) = aborted-sound ct top ws cells u us s in
     record {
@@ -104,16 +105,16 @@ begun-aborted live runs undo room runs′ undo′ cells cells′ c c′ ct top (
       work = a .0;
       sound = sd;
       small = small-of live runs′ undo′ room c′ (requeued u ∷ []) [] (map requeued us ++ ws) [] room ct top (a .0) sd k (omega (arith, sd .sixtyFour));
-      rest = ap (λ (x : Cells). sending [] (Steps.drain x [] (map requeued us ++ ws))) (a .1);
+      rest = ap (λ (x : Cells). sending [] (Steps.drain σ x [] (map requeued us ++ ws))) (a .1);
     }
 
 -- Commit
 
-begun-committed : (live runs undo room runs′ undo′ room′ : List ℕ) (cells : Cells) (c c′ : Counts) (ct top : ℕ) (us : List Uncommitted) (ws : List Waiting) (n : ℕ) → Work live runs undo room c [] us ws [] room → Sound ct top us ws
+begun-committed : (σ : Scheme) (live runs undo room runs′ undo′ room′ : List ℕ) (cells : Cells) (c c′ : Counts) (ct top : ℕ) (us : List Uncommitted) (ws : List Waiting) (n : ℕ) → Work live runs undo room c [] us ws [] room → Sound ct top us ws
     → front (λ (u : Uncommitted). eqb (u .number) n) us ≡ true → Committed live runs undo room c runs′ undo′ room′ c′ → c′ .first + c′ .uncommitted + c′ .waiting ≤ 64
-    → Begun live runs′ undo′ room′ cells c′ room (committed cells us ws)
-begun-committed live runs undo room runs′ undo′ room′ cells c c′ ct top [] ws n w s h cm k = absurd (true≢false (sym h))
-begun-committed live runs undo room runs′ undo′ room′ cells c c′ ct top (u ∷ us) ws n w s h cm k =
+    → Begun σ live runs′ undo′ room′ cells c′ room (committed σ cells us ws)
+begun-committed σ live runs undo room runs′ undo′ room′ cells c c′ ct top [] ws n w s h cm k = absurd (true≢false (sym h))
+begun-committed σ live runs undo room runs′ undo′ room′ cells c c′ ct top (u ∷ us) ws n w s h cm k =
     let a = cm [] u us ws [] room w (known-of ct (u ∷ us) (s .each)) in
     let y = settled-sound ct top us ws (front-leaves ct top u us ws s) in
     record {
@@ -131,13 +132,13 @@ begun-committed live runs undo room runs′ undo′ room′ cells c c′ ct top 
 
 -- A fragment of the front
 
-begun-continued : (live runs undo room runs′ undo′ room′ : List ℕ) (cells cells′ : Cells) (c c′ : Counts) (f : Fragment) (ct top : ℕ) (u : Uncommitted) (us : List Uncommitted) (ws : List Waiting)
+begun-continued : (σ : Scheme) (live runs undo room runs′ undo′ room′ : List ℕ) (cells cells′ : Cells) (c c′ : Counts) (f : Fragment) (ct top : ℕ) (u : Uncommitted) (us : List Uncommitted) (ws : List Waiting)
     → Work live runs undo room c [] (u ∷ us) ws [] room → Sound ct top (u ∷ us) ws → finished (u .state) ≡ false → u .ran < mostFragments → storable ct f ≡ true → length (f .row) ≡ 8
     → Continued live runs undo room cells c f runs′ undo′ room′ cells′ c′ → c′ .first + c′ .uncommitted + c′ .waiting ≤ 64
-    → Begun live runs′ undo′ room′ cells′ c′ room (continued f cells u us ws)
-begun-continued live runs undo room runs′ undo′ room′ cells cells′ c c′ f ct top u us ws w s nf few st eight cn k = go us w s (alone ct top ws cells u us s nf)
+    → Begun σ live runs′ undo′ room′ cells′ c′ room (continued σ f cells u us ws)
+begun-continued σ live runs undo room runs′ undo′ room′ cells cells′ c c′ f ct top u us ws w s nf few st eight cn k = go us w s (alone ct top ws cells u us s nf)
   where
-    go : (vs : List Uncommitted) → Work live runs undo room c [] (u ∷ vs) ws [] room → Sound ct top (u ∷ vs) ws → vs ≡ [] → Begun live runs′ undo′ room′ cells′ c′ room (continued f cells u vs ws)
+    go : (vs : List Uncommitted) → Work live runs undo room c [] (u ∷ vs) ws [] room → Sound ct top (u ∷ vs) ws → vs ≡ [] → Begun σ live runs′ undo′ room′ cells′ c′ room (continued σ f cells u vs ws)
     go (x ∷ vs) w s z = absurd (mathlib.Core.List.nil≢cons (sym z))
     go [] w s z =
         let a = cn [] u ws [] room w (known-of ct (u ∷ []) (s .each) .0) few eight (s .each .0 .few) in
@@ -153,17 +154,17 @@ begun-continued live runs undo room runs′ undo′ room′ cells cells′ c c�
           work = a .0;
           sound = sd;
           small = small-of live runs′ undo′ room′ c′ [] (again u f (run f cells (u .undo)) ∷ []) ws x room ct top (a .0) sd k (omega (arith, s .sixtyFour));
-          rest = ap (λ (y : Cells). sending x (Steps.drain y (again u f (run f cells (u .undo)) ∷ []) ws)) (a .1);
+          rest = ap (λ (y : Cells). sending x (Steps.drain σ y (again u f (run f cells (u .undo)) ∷ []) ws)) (a .1);
         }
 
 -- A new transaction
 
-begun-joined : (live live′ runs undo room : List ℕ) (cells : Cells) (c c′ : Counts) (n : ℕ) (f : Fragment) (ct top : ℕ) (us : List Uncommitted) (ws : List Waiting)
+begun-joined : (σ : Scheme) (live live′ runs undo room : List ℕ) (cells : Cells) (c c′ : Counts) (n : ℕ) (f : Fragment) (ct top : ℕ) (us : List Uncommitted) (ws : List Waiting)
     → Work live runs undo room c [] us ws [] room → Sound ct top us ws → top < n → storable ct f ≡ true → length us + length ws < mostLive → length (f .row) ≡ 8
     → live′ ≡ sets live (28 * (c .first + c .uncommitted + c .waiting)) (rowWords n f) → c′ ≡ waitingMore c
-    → Begun live′ runs undo room cells c′ room (joined n f cells us ws)
+    → Begun σ live′ runs undo room cells c′ room (joined σ n f cells us ws)
 unfolding allRows
-begun-joined live live′ runs undo room cells c c′ n f ct top us ws w s k st few eight el ec =
+begun-joined σ live live′ runs undo room cells c c′ n f ct top us ws w s k st few eight el ec =
     let x : Waiting = record { number = n; fragment = f } in
     let old : List Waiting = liveRows us ws in
     let rows : liveRows us (ws ++ (x ∷ [])) ≡ old ++ (x ∷ []) = sym (append-assoc (map requeued us) ws (x ∷ [])) in
@@ -219,24 +220,24 @@ front-back live runs undo room c (u ∷ us) ws n w =
     ∙ ap (λ (b : Bool). not b && eqb (getD live 0 0) n) (ne-eqb (suc (length us)) 0 (λ z. omega arith))
     ∙ ap (λ (x : ℕ). eqb x n) (ap (λ (l : List ℕ). getD l 0 0) (w .at-live) ∙ number-back 1792 [] (requeued u) (liveRows us ws) 0 tt (w .eights .0) refl)
 
-module _ (live₀ runs undo room : List ℕ) (cells : Cells) (c : Counts) (v : Event) (e : Engine) (rd : Ready live₀ runs undo room cells c v e) where
+module _ (σ : Scheme) (live₀ runs undo room : List ℕ) (cells : Cells) (c : Counts) (v : Event) (e : Engine) (rd : Ready σ live₀ runs undo room cells c v e) where
   pub abort-begun : eqb (v .kind) 1 ≡ false → eqb (v .kind) 2 ≡ false → (runs′ undo′ : List ℕ) (cells′ : Cells) (c′ : Counts) → Aborted runs undo cells c runs′ undo′ cells′ c′ → c′ .first + c′ .uncommitted + c′ .waiting ≤ 64
-      → Begun live₀ runs′ undo′ room cells′ c′ room (taken (request v) e cells)
+      → Begun σ live₀ runs′ undo′ room cells′ c′ room (taken σ (request v) e cells)
   abort-begun a b runs′ undo′ cells′ c′ ab k =
-      subst (λ (q : Request). Begun live₀ runs′ undo′ room cells′ c′ room (taken q e cells)) (sym (request-decides v false a b))
-      (begun-aborted live₀ runs undo room runs′ undo′ cells cells′ c c′ (e .count) (e .largest) (e .uncommitted) (e .waiting) (v .number) (rd .work) (parts live₀ runs undo room cells c v e rd) (decided live₀ runs undo room cells c v e rd a) ab k)
+      subst (λ (q : Request). Begun σ live₀ runs′ undo′ room cells′ c′ room (taken σ q e cells)) (sym (request-decides v false a b))
+      (begun-aborted σ live₀ runs undo room runs′ undo′ cells cells′ c c′ (e .count) (e .largest) (e .uncommitted) (e .waiting) (v .number) (rd .work) (parts σ live₀ runs undo room cells c v e rd) (decided σ live₀ runs undo room cells c v e rd a) ab k)
 
   pub commit-begun : eqb (v .kind) 1 ≡ false → eqb (v .kind) 2 ≡ true → (runs′ undo′ room′ : List ℕ) (c′ : Counts) → Committed live₀ runs undo room c runs′ undo′ room′ c′ → c′ .first + c′ .uncommitted + c′ .waiting ≤ 64
-      → Begun live₀ runs′ undo′ room′ cells c′ room (taken (request v) e cells)
+      → Begun σ live₀ runs′ undo′ room′ cells c′ room (taken σ (request v) e cells)
   commit-begun a b runs′ undo′ room′ c′ cm k =
-      subst (λ (q : Request). Begun live₀ runs′ undo′ room′ cells c′ room (taken q e cells)) (sym (request-decides v true a b))
-      (begun-committed live₀ runs undo room runs′ undo′ room′ cells c c′ (e .count) (e .largest) (e .uncommitted) (e .waiting) (v .number) (rd .work) (parts live₀ runs undo room cells c v e rd) (decided live₀ runs undo room cells c v e rd a) cm k)
+      subst (λ (q : Request). Begun σ live₀ runs′ undo′ room′ cells c′ room (taken σ q e cells)) (sym (request-decides v true a b))
+      (begun-committed σ live₀ runs undo room runs′ undo′ room′ cells c c′ (e .count) (e .largest) (e .uncommitted) (e .waiting) (v .number) (rd .work) (parts σ live₀ runs undo room cells c v e rd) (decided σ live₀ runs undo room cells c v e rd a) cm k)
 
   pub continue-begun : eqb (v .kind) 1 ≡ true → frontIs (c .uncommitted) live₀ (v .number) ≡ true → (runs′ undo′ room′ : List ℕ) (cells′ : Cells) (c′ : Counts) → Continued live₀ runs undo room cells c (v .fragment) runs′ undo′ room′ cells′ c′
-      → c′ .first + c′ .uncommitted + c′ .waiting ≤ 64 → Begun live₀ runs′ undo′ room′ cells′ c′ room (taken (request v) e cells)
+      → c′ .first + c′ .uncommitted + c′ .waiting ≤ 64 → Begun σ live₀ runs′ undo′ room′ cells′ c′ room (taken σ (request v) e cells)
   continue-begun a fr runs′ undo′ room′ cells′ c′ cn k =
-      subst (λ (q : Request). Begun live₀ runs′ undo′ room′ cells′ c′ room (taken q e cells)) (sym (request-arrive v a))
-      (go (e .uncommitted) (rd .work) (parts live₀ runs undo room cells c v e rd) (rd .passed .eight) (rd .passed .eleven) (sym (front-back live₀ runs undo room c (e .uncommitted) (e .waiting) (v .number) (rd .work)) ∙ fr))
+      subst (λ (q : Request). Begun σ live₀ runs′ undo′ room′ cells′ c′ room (taken σ q e cells)) (sym (request-arrive v a))
+      (go (e .uncommitted) (rd .work) (parts σ live₀ runs undo room cells c v e rd) (rd .passed .eight) (rd .passed .eleven) (sym (front-back live₀ runs undo room c (e .uncommitted) (e .waiting) (v .number) (rd .work)) ∙ fr))
     where
       n : ℕ
       n = v .number
@@ -244,22 +245,22 @@ module _ (live₀ runs undo room : List ℕ) (cells : Cells) (c : Counts) (v : E
       go : (us : List Uncommitted) → Work live₀ runs undo room c [] us (e .waiting) [] room → Sound (e .count) (e .largest) us (e .waiting)
           → (eqb (v .kind) 1 && (front (λ (u : Uncommitted). eqb (u .number) (v .number)) us && front (λ (u : Uncommitted). finished (u .state)) us)) ≡ false
           → (eqb (v .kind) 1 && (front (λ (u : Uncommitted). eqb (u .number) (v .number)) us && front (λ (u : Uncommitted). leb mostFragments (u .ran)) us)) ≡ false
-          → front (λ (u : Uncommitted). eqb (u .number) (v .number)) us ≡ true → Begun live₀ runs′ undo′ room′ cells′ c′ room (arrived (v .number) (v .fragment) cells us (e .waiting))
+          → front (λ (u : Uncommitted). eqb (u .number) (v .number)) us ≡ true → Begun σ live₀ runs′ undo′ room′ cells′ c′ room (arrived σ (v .number) (v .fragment) cells us (e .waiting))
       go [] w s p8 p11 h = absurd (true≢false (sym h))
       go (u ∷ us) w s p8 p11 h =
-          subst (λ (b : Bool). Begun live₀ runs′ undo′ room′ cells′ c′ room (elim b as (λ _. Queues) [ false ↦ joined (v .number) (v .fragment) cells (u ∷ us) (e .waiting) | true ↦ continued (v .fragment) cells u us (e .waiting) ])) (sym h)
-          (begun-continued live₀ runs undo room runs′ undo′ room′ cells cells′ c c′ (v .fragment) (e .count) (e .largest) u us (e .waiting) w s
+          subst (λ (b : Bool). Begun σ live₀ runs′ undo′ room′ cells′ c′ room (elim b as (λ _. Queues) [ false ↦ joined σ (v .number) (v .fragment) cells (u ∷ us) (e .waiting) | true ↦ continued σ (v .fragment) cells u us (e .waiting) ])) (sym h)
+          (begun-continued σ live₀ runs undo room runs′ undo′ room′ cells cells′ c c′ (v .fragment) (e .count) (e .largest) u us (e .waiting) w s
           (and-if (eqb (u .number) (v .number)) (finished (u .state)) h (and-if (eqb (v .kind) 1) _ a p8))
           (leb-false mostFragments (u .ran) (and-if (eqb (u .number) (v .number)) (leb mostFragments (u .ran)) h (and-if (eqb (v .kind) 1) _ a p11)))
-          (arrives-storable e (callOf v cells room) a (rd .passed)) (rd .words) cn k)
+          (arrives-storable e (callOf σ v cells room) a (rd .passed)) (rd .words) cn k)
 
   pub join-begun : eqb (v .kind) 1 ≡ true → frontIs (c .uncommitted) live₀ (v .number) ≡ false → (live′ : List ℕ) (c′ : Counts) → live′ ≡ sets live₀ (28 * (c .first + c .uncommitted + c .waiting)) (rowWords (v .number) (v .fragment)) → c′ ≡ waitingMore c
-      → Begun live′ runs undo room cells c′ room (taken (request v) e cells)
+      → Begun σ live′ runs undo room cells c′ room (taken σ (request v) e cells)
   join-begun a fr live′ c′ el ec =
-      subst (λ (q : Request). Begun live′ runs undo room cells c′ room (taken q e cells)) (sym (request-arrive v a))
-      (subst (λ (q : Queues). Begun live′ runs undo room cells c′ room q) (sym (joins (e .uncommitted) not-front))
-      (begun-joined live₀ live′ runs undo room cells c c′ (v .number) (v .fragment) (e .count) (e .largest) (e .uncommitted) (e .waiting) (rd .work) (parts live₀ runs undo room cells c v e rd) (ltb-true (e .largest) (v .number) fresh)
-      (arrives-storable e (callOf v cells room) a (rd .passed))
+      subst (λ (q : Request). Begun σ live′ runs undo room cells c′ room (taken σ q e cells)) (sym (request-arrive v a))
+      (subst (λ (q : Queues). Begun σ live′ runs undo room cells c′ room q) (sym (joins (e .uncommitted) not-front))
+      (begun-joined σ live₀ live′ runs undo room cells c c′ (v .number) (v .fragment) (e .count) (e .largest) (e .uncommitted) (e .waiting) (rd .work) (parts σ live₀ runs undo room cells c v e rd) (ltb-true (e .largest) (v .number) fresh)
+      (arrives-storable e (callOf σ v cells room) a (rd .passed))
       (leb-false mostLive (length (e .uncommitted) + length (e .waiting)) (and-if (eqb (v .kind) 1 && new (v .number) e) (leb mostLive (length (e .uncommitted) + length (e .waiting))) (both (eqb (v .kind) 1) (new (v .number) e) a fresh) (rd .passed .ten))) (rd .words) el ec))
     where
       not-front : front (λ (u : Uncommitted). eqb (u .number) (v .number)) (e .uncommitted) ≡ false
@@ -268,9 +269,9 @@ module _ (live₀ runs undo room : List ℕ) (cells : Cells) (c : Counts) (v : E
       fresh : new (v .number) e ≡ true
       fresh = front-or-new (live (v .number) e) (new (v .number) e) (isFront (v .number) e) (rd .passed .six) (rd .passed .seven) not-front
 
-      joins : (us : List Uncommitted) → front (λ (u : Uncommitted). eqb (u .number) (v .number)) us ≡ false → arrived (v .number) (v .fragment) cells us (e .waiting) ≡ joined (v .number) (v .fragment) cells us (e .waiting)
+      joins : (us : List Uncommitted) → front (λ (u : Uncommitted). eqb (u .number) (v .number)) us ≡ false → arrived σ (v .number) (v .fragment) cells us (e .waiting) ≡ joined σ (v .number) (v .fragment) cells us (e .waiting)
       joins [] h = refl
-      joins (u ∷ us) h = ap {B = Queues} (λ (b : Bool). elim b [ false ↦ joined (v .number) (v .fragment) cells (u ∷ us) (e .waiting) | true ↦ continued (v .fragment) cells u us (e .waiting) ]) h
+      joins (u ∷ us) h = ap {B = Queues} (λ (b : Bool). elim b [ false ↦ joined σ (v .number) (v .fragment) cells (u ∷ us) (e .waiting) | true ↦ continued σ (v .fragment) cells u us (e .waiting) ]) h
 
 pub front-some : (n : ℕ) (l : List ℕ) (m : ℕ) → frontIs n l m ≡ true → 0 < n
 front-some zero l m h = absurd (true≢false (sym h))

@@ -15,6 +15,7 @@ use Rattle.model.specs.Steps.{Queues, requeued}
 use Rattle.model.specs.Refusals.{Call, Stepped, Request, Arrive, Commit, Abort, refusal, request, taken, new, largestAfter, respond, step}
 use Rattle.model.specs.Refusals as Refusals
 use Rattle.model.specs.declared.Event.{Event}
+use Rattle.model.specs.declared.Scheme.{Scheme}
 use Rattle.model.proofs.Chain.{All}
 use Rattle.model.proofs.Passing.{Passed, passed}
 use Rattle.refusals.specs.Rest.{callOf}
@@ -34,22 +35,22 @@ use Rattle.engine.specs.declared.Fresh.{Fresh}
 use Rattle.engine.proofs.Viewed.{First, view-count, view-waits, view-first, view-waiting}
 
 -- the three equations of the contract
-abbrev pub Meets : Record → Event → Cells → List ℕ → Called → Cells → List ℕ → Type 0
-Meets r v cells room d cells′ room′ = (d ≡ called r v cells room) × ((cells′ ≡ cellsAfter r v cells room) × (room′ ≡ roomAfter r v cells room))
+abbrev pub Meets : Scheme → Record → Event → Cells → List ℕ → Called → Cells → List ℕ → Type 0
+Meets σ r v cells room d cells′ room′ = (d ≡ called σ r v cells room) × ((cells′ ≡ cellsAfter σ r v cells room) × (room′ ≡ roomAfter σ r v cells room))
 
 -- the same, of the step that the refusal's number k gives
 abbrev MeetsOf : Record → Stepped → Called → Cells → List ℕ → Type 0
 MeetsOf r s d cells′ room′ = (d ≡ record { number = s .number; answers = length (s .answers); next = nextOf r s }) × ((cells′ ≡ s .cells) × (room′ ≡ s .room))
 
-meets-by : (r : Record) (v : Event) (cells room : List ℕ) (d : Called) (cells′ room′ : List ℕ) (k : ℕ) → refusal (view r) (callOf v cells room) ≡ k
-    → MeetsOf r (respond k (view r) (callOf v cells room)) d cells′ room′ → Meets r v cells room d cells′ room′
+meets-by : (σ : Scheme) (r : Record) (v : Event) (cells room : List ℕ) (d : Called) (cells′ room′ : List ℕ) (k : ℕ) → refusal (view r) (callOf σ v cells room) ≡ k
+    → MeetsOf r (respond k (view r) (callOf σ v cells room)) d cells′ room′ → Meets σ r v cells room d cells′ room′
 unfolding called stepped step
-meets-by r v cells room d cells′ room′ k e m = subst (λ (x : ℕ). MeetsOf r (respond x (view r) (callOf v cells room)) d cells′ room′) (sym e) m
+meets-by σ r v cells room d cells′ room′ k e m = subst (λ (x : ℕ). MeetsOf r (respond x (view r) (callOf σ v cells room)) d cells′ room′) (sym e) m
 
-pub refused-call : (r : Record) (v : Event) (cells room : List ℕ) (k : ℕ) → k ≡ refusal (view r) (callOf v cells room) → (k ≡ 0 → ⊥)
-    → Meets r v cells room (record { number = k; answers = 0; next = r }) cells room
-refused-call r v cells room zero e ne = absurd (ne refl)
-refused-call r v cells room (suc k) e ne = meets-by r v cells room (record { number = suc k; answers = 0; next = r }) cells room (suc k) (sym e) (refl, (refl, refl))
+pub refused-call : (σ : Scheme) (r : Record) (v : Event) (cells room : List ℕ) (k : ℕ) → k ≡ refusal (view r) (callOf σ v cells room) → (k ≡ 0 → ⊥)
+    → Meets σ r v cells room (record { number = k; answers = 0; next = r }) cells room
+refused-call σ r v cells room zero e ne = absurd (ne refl)
+refused-call σ r v cells room (suc k) e ne = meets-by σ r v cells room (record { number = suc k; answers = 0; next = r }) cells room (suc k) (sym e) (refl, (refl, refl))
 
 -- no answers fill nothing
 pub filled-none : (room : List ℕ) → room ≡ filled [] room
@@ -62,13 +63,13 @@ rows-of [] ws k e = e
 rows-of (u ∷ us) ws k e = (k .0, rows-of us ws (k .1) e)
 
 -- what the checks and the tidying leave is ready for the steps
-pub ready : (r : Record) (v : Event) (cells room : List ℕ) (n : ℕ) (live runs undo : List ℕ) → refusal (view r) (callOf v cells room) ≡ 0
+pub ready : (σ : Scheme) (r : Record) (v : Event) (cells room : List ℕ) (n : ℕ) (live runs undo : List ℕ) → refusal (view r) (callOf σ v cells room) ≡ 0
     → Canonical (uncommittedOf (r .live) 0 (r .runs) 0 (r .undo) 0 (r .uncommitted)) (waitingOf (r .live) (28 * r .uncommitted) (r .waiting)) n live runs undo
     → length (v .fragment .row) ≡ 8
-    → Ready live runs undo room cells (record { first = 0; uncommitted = r .uncommitted; waiting = r .waiting; entries = n; answers = 0 }) v (view r)
+    → Ready σ live runs undo room cells (record { first = 0; uncommitted = r .uncommitted; waiting = r .waiting; entries = n; answers = 0 }) v (view r)
 unfolding viewOf
-ready r v cells room n live runs undo z t h =
-    let p : Passed (view r) (callOf v cells room) = passed (view r) (callOf v cells room) z in
+ready σ r v cells room n live runs undo z t h =
+    let p : Passed (view r) (callOf σ v cells room) = passed (view r) (callOf σ v cells room) z in
     record {
       work = record {
         at-live = t .live;
@@ -107,13 +108,13 @@ closed live live′ gone ws k m el eg ea ek em h e =
     let la : length (allRows gone ++ allRows ws) ≡ 28 * m = ap length (sym (rows-append gone ws)) ∙ length-rows (gone ++ ws) ea ∙ ap (λ (x : ℕ). 28 * x) em in
     e ∙ ap (λ (x : List ℕ). sets x 0 (numbersFrom x (28 * k) (28 * m))) at ∙ shift-padded 1792 (allRows gone) (allRows ws) (28 * k) (28 * m) lg la (omega arith)
 
-pub accepted-call : (r : Record) (v : Event) (cells room : List ℕ) (live live′ runs undo room′ : List ℕ) (cells′ : Cells) (c : Counts) (top : ℕ) → refusal (view r) (callOf v cells room) ≡ 0
-    → Left live runs undo room′ c cells′ [] room (taken (request v) (view r) cells) → c .first + c .uncommitted + c .waiting ≤ 64
+pub accepted-call : (σ : Scheme) (r : Record) (v : Event) (cells room : List ℕ) (live live′ runs undo room′ : List ℕ) (cells′ : Cells) (c : Counts) (top : ℕ) → refusal (view r) (callOf σ v cells room) ≡ 0
+    → Left live runs undo room′ c cells′ [] room (taken σ (request v) (view r) cells) → c .first + c .uncommitted + c .waiting ≤ 64
     → live′ ≡ sets live 0 (numbersFrom live (28 * c .first) (28 * (c .first + c .uncommitted + c .waiting))) → top ≡ largestBy (v .kind) (v .number) (r .largest)
-    → Meets r v cells room (record { number = 0; answers = c .answers; next = record { count = r .count; largest = top; uncommitted = c .uncommitted; waiting = c .waiting; live = live′; runs = runs; undo = undo } }) cells′ room′
+    → Meets σ r v cells room (record { number = 0; answers = c .answers; next = record { count = r .count; largest = top; uncommitted = c .uncommitted; waiting = c .waiting; live = live′; runs = runs; undo = undo } }) cells′ room′
 unfolding pack viewOf
-accepted-call r v cells room live live′ runs undo room′ cells′ c top z l h el et =
-    meets-by r v cells room _ cells′ room′ 0 z (
+accepted-call σ r v cells room live live′ runs undo room′ cells′ c top z l h el et =
+    meets-by σ r v cells room _ cells′ room′ 0 z (
       (λ j. record {
         number = 0;
         answers = sym (l .work .answers) j;
@@ -131,7 +132,7 @@ accepted-call r v cells room live live′ runs undo room′ cells′ c top z l h
     )
   where
     q : Queues
-    q = taken (request v) (view r) cells
+    q = taken σ (request v) (view r) cells
 
     long : length (l .gone ++ liveRows (q .uncommitted) (q .waiting)) ≡ c .first + c .uncommitted + c .waiting
     long = omega (arith, length-append (l .gone) (liveRows (q .uncommitted) (q .waiting)), length-append (map requeued (q .uncommitted)) (q .waiting), length-map (q .uncommitted) requeued, l .work .first, l .work .uncommitted, l .work .waiting)

@@ -41,11 +41,11 @@ accepted-sound : (e : Engine) (c : Call) → refusal e c ≡ 0 → sound e ≡ t
 accepted-sound e c z = not-false (sound e) (passed e c z .one)
 
 -- what an accepted call leaves, on any record
-accepted-fine : (r : Record) (c : Call) → Words (c .event) → refusal (view r) c ≡ 0 → Fine (taken (request (c .event)) (view r) (c .lent))
+accepted-fine : (r : Record) (c : Call) → Words (c .event) → refusal (view r) c ≡ 0 → Fine (taken (c .scheme) (request (c .event)) (view r) (c .lent))
 accepted-fine r c h z =
     let us : List Uncommitted = view r .uncommitted in
     let k : All Known us = known-of (view r .count) us (sound-parts (view r) (accepted-sound (view r) c z) .each) in
-    taken-fine (c .event) (view r) (c .lent) h (all-both First Fit us (view-first r) (all-map Known Fit (λ u x. x .0) us k)) (view-waiting r)
+    taken-fine (c .scheme) (c .event) (view r) (c .lent) h (all-both First Fit us (view-first r) (all-map Known Fit (λ u x. x .0) us k)) (view-waiting r)
 
 -- the next record means what the model's step leaves
 pub next-view : (r : Record) (c : Call) → Words (c .event) → view (returned r c .next) ≡ step (view r) c .engine
@@ -55,7 +55,7 @@ next-view r c h = go (refusal (view r) c) refl
     go : (k : ℕ) → refusal (view r) c ≡ k → view (nextOf r (respond k (view r) c)) ≡ respond k (view r) c .engine
     go zero z =
         let e : Engine = respond 0 (view r) c .engine in
-        let f : Fine (taken (request (c .event)) (view r) (c .lent)) = accepted-fine r c h z in
+        let f : Fine (taken (c .scheme) (request (c .event)) (view r) (c .lent)) = accepted-fine r c h z in
         view-pack e (subst (λ (k : ℕ). sound (respond k (view r) c .engine) ≡ true) z (step-keeps (view r) c (accepted-sound (view r) c z) .sound))
         (rows-eight (e .uncommitted) (e .waiting) (f .uncommitted) (f .waiting))
     go (suc k) z = refl

@@ -14,6 +14,8 @@ use Rattle.model.specs.Transactions.{State, Running, Finished, Failed, NoState,
 use Rattle.model.specs.Steps.{run, lastFinished, mayTake, Place, placed, Queues, sending}
 use Rattle.model.specs.Steps as Steps
 use Rattle.model.specs.declared.Fragment.{Fragment}
+use Rattle.model.specs.declared.Scheme.{Scheme}
+use Rattle.model.specs.declared.Scheme.the-variants.{Speculation, Blocking}
 use Rattle.model.proofs.Chain.{All, all-map}
 use Rattle.model.proofs.Sound.{Sound}
 use Rattle.model.proofs.Running.{run-few}
@@ -24,7 +26,7 @@ use Rattle.record.specs.Words.{allRuns, runWords, stateWord}
 use Rattle.record.specs.View.{fragmentAt}
 use Rattle.record.proofs.Back.{Fit, Known, known-of, run-read}
 use Rattle.engine.specs.declared.queues.Counts.{Counts}
-use Rattle.engine.specs.Work.{Small, Work, Left, Turned, Drained, mayTakeRow, joinedCounts, settledCounts, withAnswers}
+use Rattle.engine.specs.Work.{Small, Work, Left, Turned, Drained, blocking, mayTakeRow, joinedCounts, settledCounts, withAnswers}
 
 -- Counts
 
@@ -89,9 +91,11 @@ run-state : (v : Uncommitted) → getD (runWords v) 1 0 ≡ stateWord (v .state)
 unfolding runWords
 run-state v = refl
 
-pub may-take-back : (us : List Uncommitted) (runs : List ℕ) (n : ℕ) → All Known us → runs ≡ padded 256 (allRuns us) → length us ≡ n → mayTakeRow runs n ≡ mayTake us
-may-take-back [] runs n k e en = ap (mayTakeRow runs) (sym en)
-may-take-back (u ∷ us) runs n k e en = ap (mayTakeRow runs) (sym en) ∙ some ∙ deep (leb 16 (suc (length us))) refl
+pub may-take-back : (σ : Scheme) (us : List Uncommitted) (runs : List ℕ) (n : ℕ) → All Known us → runs ≡ padded 256 (allRuns us) → length us ≡ n → mayTakeRow σ runs n ≡ mayTake σ us
+may-take-back Blocking [] runs n k e en = ap (mayTakeRow Blocking runs) (sym en)
+may-take-back Speculation [] runs n k e en = ap (mayTakeRow Speculation runs) (sym en)
+may-take-back Blocking (u ∷ us) runs n k e en = ap (λ (x : ℕ). eqb x 0) (sym en) ∙ ne-eqb (suc (length us)) 0 (λ z. omega arith)
+may-take-back Speculation (u ∷ us) runs n k e en = ap (mayTakeRow Speculation runs) (sym en) ∙ some ∙ deep (leb 16 (suc (length us))) refl
   where
     m : ℕ
     m = suc (length us)
@@ -102,7 +106,7 @@ may-take-back (u ∷ us) runs n k e en = ap (mayTakeRow runs) (sym en) ∙ some 
     rest : Bool → Bool
     rest b = pick b false (pick (eqb (getD runs (16 * (suc (length us) - 1) + 1) 0) 1) true (eqb (getD runs (16 * (suc (length us) - 1) + 1) 0) 2))
 
-    some : mayTakeRow runs (suc (length us)) ≡ rest (leb 16 (suc (length us)))
+    some : mayTakeRow Speculation runs (suc (length us)) ≡ rest (leb 16 (suc (length us)))
     some = ap (λ (b : Bool). pick b true (rest (leb 16 (suc (length us))))) (ne-eqb (suc (length us)) 0 (λ z. omega arith))
 
     x : Ends (u ∷ us)
@@ -120,7 +124,7 @@ may-take-back (u ∷ us) runs n k e en = ap (mayTakeRow runs) (sym en) ∙ some 
         ∙ run-read 256 (x .ahead) (x .tail) [] (16 * (suc (length us) - 1)) 1 (all-first (x .ahead) (x .tail ∷ []) fit) (all-rest (x .ahead) (x .tail ∷ []) fit .0) far (omega arith)
         ∙ run-state (x .tail)
 
-    deep : (b : Bool) → leb 16 (suc (length us)) ≡ b → rest b ≡ mayTake (u ∷ us)
+    deep : (b : Bool) → leb 16 (suc (length us)) ≡ b → rest b ≡ mayTake Speculation (u ∷ us)
     deep true h = sym (ap (λ (b : Bool). b && lastFinished (u ∷ us)) (le-ltb (suc (length us)) depth (leb-true 16 (suc (length us)) h)))
     deep false h =
         ap (λ (w : ℕ). pick (eqb w 1) true (eqb w 2)) word-is ∙ state-word (x .tail .state) ∙ sym (x .last)
@@ -128,80 +132,80 @@ may-take-back (u ∷ us) runs n k e en = ap (mayTakeRow runs) (sym en) ∙ some 
 
 -- The loop
 
-pub record Mid (live runs undo room : List ℕ) (cells : Cells) (c : Counts) (sent : List Answer) (room₀ : List ℕ) (ct top : ℕ) (whole : Queues) : Type 0 where
+pub record Mid (σ : Scheme) (live runs undo room : List ℕ) (cells : Cells) (c : Counts) (sent : List Answer) (room₀ : List ℕ) (ct top : ℕ) (whole : Queues) : Type 0 where
   pub gone : List Waiting
   pub us : List Uncommitted
   pub ws : List Waiting
   pub more : List Answer
   pub work : Work live runs undo room c gone us ws more room₀
   pub sound : Sound ct top us ws
-  pub rest : sending more (Steps.drain cells us ws) ≡ sending sent whole
+  pub rest : sending more (Steps.drain σ cells us ws) ≡ sending sent whole
 
 -- what the loop keeps: wherever it began with lists, it is in the midst of draining them
-abbrev pub Midst : List ℕ → List ℕ → List ℕ → List ℕ → Cells → Counts → List ℕ → List ℕ → List ℕ → Cells → Counts → Type 0
-Midst live runs undo room cells c runs′ undo′ room′ cells′ c′ =
+abbrev pub Midst : Scheme → List ℕ → List ℕ → List ℕ → List ℕ → Cells → Counts → List ℕ → List ℕ → List ℕ → Cells → Counts → Type 0
+Midst σ live runs undo room cells c runs′ undo′ room′ cells′ c′ =
     (gone : List Waiting) (us : List Uncommitted) (ws : List Waiting) (sent : List Answer) (room₀ : List ℕ) → Work live runs undo room c gone us ws sent room₀
-    → (ct top : ℕ) → Sound ct top us ws → Mid live runs′ undo′ room′ cells′ c′ sent room₀ ct top (Steps.drain cells us ws)
+    → (ct top : ℕ) → Sound ct top us ws → Mid σ live runs′ undo′ room′ cells′ c′ sent room₀ ct top (Steps.drain σ cells us ws)
 
-pub midst-start : (live runs undo room : List ℕ) (cells : Cells) (c : Counts) → Midst live runs undo room cells c runs undo room cells c
-midst-start live runs undo room cells c gone us ws sent room₀ w ct top s = record { gone = gone; us = us; ws = ws; more = sent; work = w; sound = s; rest = refl }
+pub midst-start : (σ : Scheme) (live runs undo room : List ℕ) (cells : Cells) (c : Counts) → Midst σ live runs undo room cells c runs undo room cells c
+midst-start σ live runs undo room cells c gone us ws sent room₀ w ct top s = record { gone = gone; us = us; ws = ws; more = sent; work = w; sound = s; rest = refl }
 
-drain-takes : (cs : Cells) (us : List Uncommitted) (w : Waiting) (ws : List Waiting) → mayTake us ≡ true
-    → Steps.drain cs us (w ∷ ws) ≡ sending (placed us w (run (w .fragment) cs []) .answers) (Steps.drain (run (w .fragment) cs [] .cells) (placed us w (run (w .fragment) cs []) .uncommitted) ws)
+drain-takes : (σ : Scheme) (cs : Cells) (us : List Uncommitted) (w : Waiting) (ws : List Waiting) → mayTake σ us ≡ true
+    → Steps.drain σ cs us (w ∷ ws) ≡ sending (placed us w (run (w .fragment) cs []) .answers) (Steps.drain σ (run (w .fragment) cs [] .cells) (placed us w (run (w .fragment) cs []) .uncommitted) ws)
 unfolding Steps.drain
-drain-takes cs us w ws e =
+drain-takes σ cs us w ws e =
     ap {B = Queues} (λ (b : Bool). elim b [
       | false ↦ record { cells = cs; uncommitted = us; waiting = w ∷ ws; answers = [] }
-      | true ↦ sending (placed us w (run (w .fragment) cs []) .answers) (Steps.drain (run (w .fragment) cs [] .cells) (placed us w (run (w .fragment) cs []) .uncommitted) ws)
+      | true ↦ sending (placed us w (run (w .fragment) cs []) .answers) (Steps.drain σ (run (w .fragment) cs [] .cells) (placed us w (run (w .fragment) cs []) .uncommitted) ws)
     ]) e
 
-drain-stays : (cs : Cells) (us : List Uncommitted) (ws : List Waiting) → (ws ≡ []) ⊎ (mayTake us ≡ false) → Steps.drain cs us ws ≡ record { cells = cs; uncommitted = us; waiting = ws; answers = [] }
+drain-stays : (σ : Scheme) (cs : Cells) (us : List Uncommitted) (ws : List Waiting) → (ws ≡ []) ⊎ (mayTake σ us ≡ false) → Steps.drain σ cs us ws ≡ record { cells = cs; uncommitted = us; waiting = ws; answers = [] }
 unfolding Steps.drain
-drain-stays cs us [] h = refl
-drain-stays cs us (w ∷ ws) (inl e) = absurd (mathlib.Core.List.nil≢cons (sym e))
-drain-stays cs us (w ∷ ws) (inr e) =
+drain-stays σ cs us [] h = refl
+drain-stays σ cs us (w ∷ ws) (inl e) = absurd (mathlib.Core.List.nil≢cons (sym e))
+drain-stays σ cs us (w ∷ ws) (inr e) =
     ap {B = Queues} (λ (b : Bool). elim b [
       | false ↦ record { cells = cs; uncommitted = us; waiting = w ∷ ws; answers = [] }
-      | true ↦ sending (placed us w (run (w .fragment) cs []) .answers) (Steps.drain (run (w .fragment) cs [] .cells) (placed us w (run (w .fragment) cs []) .uncommitted) ws)
+      | true ↦ sending (placed us w (run (w .fragment) cs []) .answers) (Steps.drain σ (run (w .fragment) cs [] .cells) (placed us w (run (w .fragment) cs []) .uncommitted) ws)
     ]) e
 
 sending-more : (a b : List Answer) (q : Queues) → sending (a ++ b) q ≡ sending a (sending b q)
 sending-more a b q = λ i. record { cells = q .cells; uncommitted = q .uncommitted; waiting = q .waiting; answers = append-assoc a b (q .answers) i }
 
-module _ (live runs₀ undo₀ room₀ : List ℕ) (cells₀ : Cells) (c₀ : Counts) (runs undo room : List ℕ) (cells : Cells) (c : Counts) (mid : Midst live runs₀ undo₀ room₀ cells₀ c₀ runs undo room cells c) where
-  pub midst-turn : 0 < c .waiting → mayTakeRow runs (c .uncommitted) ≡ true → (runs′ undo′ room′ : List ℕ) (cells′ : Cells) (c′ : Counts) → Turned live runs undo room cells c runs′ undo′ room′ cells′ c′
-      → Midst live runs₀ undo₀ room₀ cells₀ c₀ runs′ undo′ room′ cells′ c′
+module _ (σ : Scheme) (live runs₀ undo₀ room₀ : List ℕ) (cells₀ : Cells) (c₀ : Counts) (runs undo room : List ℕ) (cells : Cells) (c : Counts) (mid : Midst σ live runs₀ undo₀ room₀ cells₀ c₀ runs undo room cells c) where
+  pub midst-turn : 0 < c .waiting → mayTakeRow σ runs (c .uncommitted) ≡ true → (runs′ undo′ room′ : List ℕ) (cells′ : Cells) (c′ : Counts) → Turned live runs undo room cells c runs′ undo′ room′ cells′ c′
+      → Midst σ live runs₀ undo₀ room₀ cells₀ c₀ runs′ undo′ room′ cells′ c′
   midst-turn h take runs′ undo′ room′ cells′ c′ turned gone us ws sent r₀ w ct top s =
       let m = mid gone us ws sent r₀ w ct top s in
       go (m .ws) m refl
     where
-      go : (l : List Waiting) (m : Mid live runs undo room cells c sent r₀ ct top (Steps.drain cells₀ us ws)) → m .ws ≡ l → Mid live runs′ undo′ room′ cells′ c′ sent r₀ ct top (Steps.drain cells₀ us ws)
+      go : (l : List Waiting) (m : Mid σ live runs undo room cells c sent r₀ ct top (Steps.drain σ cells₀ us ws)) → m .ws ≡ l → Mid σ live runs′ undo′ room′ cells′ c′ sent r₀ ct top (Steps.drain σ cells₀ us ws)
       go [] m e = absurd (omega (arith, m .work .waiting, ap length e))
       go (x ∷ l) m e =
           let wk : Work live runs undo room c (m .gone) (m .us) (x ∷ l) (m .more) r₀ = subst (λ (y : List Waiting). Work live runs undo room c (m .gone) (m .us) y (m .more) r₀) e (m .work) in
           let sd : Sound ct top (m .us) (x ∷ l) = subst (λ (y : List Waiting). Sound ct top (m .us) y) e (m .sound) in
-          let tk : mayTake (m .us) ≡ true = sym (may-take-back (m .us) runs (c .uncommitted) (known-of ct (m .us) (m .sound .each)) (m .work .at-runs) (m .work .uncommitted)) ∙ take in
-          let t = turned (m .gone) (m .us) x l (m .more) r₀ wk ct top sd tk in
+          let tk : mayTake σ (m .us) ≡ true = sym (may-take-back σ (m .us) runs (c .uncommitted) (known-of ct (m .us) (m .sound .each)) (m .work .at-runs) (m .work .uncommitted)) ∙ take in
+          let t = turned (m .gone) (m .us) x l (m .more) r₀ wk ct top sd σ tk in
           record {
             gone = t .gone;
             us = placed (m .us) x (run (x .fragment) cells []) .uncommitted;
             ws = l;
             more = m .more ++ placed (m .us) x (run (x .fragment) cells []) .answers;
             work = t .work;
-            sound = placed-sound ct top (m .us) x l cells tk sd .0;
-            rest = ap (λ (y : Cells). sending (m .more ++ placed (m .us) x (run (x .fragment) cells []) .answers) (Steps.drain y (placed (m .us) x (run (x .fragment) cells []) .uncommitted) l)) (t .stands)
-                ∙ sending-more (m .more) (placed (m .us) x (run (x .fragment) cells []) .answers) (Steps.drain (run (x .fragment) cells [] .cells) (placed (m .us) x (run (x .fragment) cells []) .uncommitted) l)
-                ∙ ap (sending (m .more)) (sym (drain-takes cells (m .us) x l tk) ∙ ap (Steps.drain cells (m .us)) (sym e)) ∙ m .rest;
+            sound = placed-sound σ ct top (m .us) x l cells tk sd .0;
+            rest = ap (λ (y : Cells). sending (m .more ++ placed (m .us) x (run (x .fragment) cells []) .answers) (Steps.drain σ y (placed (m .us) x (run (x .fragment) cells []) .uncommitted) l)) (t .stands)
+                ∙ sending-more (m .more) (placed (m .us) x (run (x .fragment) cells []) .answers) (Steps.drain σ (run (x .fragment) cells [] .cells) (placed (m .us) x (run (x .fragment) cells []) .uncommitted) l)
+                ∙ ap (sending (m .more)) (sym (drain-takes σ cells (m .us) x l tk) ∙ ap (Steps.drain σ cells (m .us)) (sym e)) ∙ m .rest;
           }
 
-  pub midst-end : (c .waiting ≡ 0) ⊎ (mayTakeRow runs (c .uncommitted) ≡ false) → Drained live runs₀ undo₀ room₀ cells₀ c₀ runs undo room cells c
+  pub midst-end : (c .waiting ≡ 0) ⊎ (mayTakeRow σ runs (c .uncommitted) ≡ false) → Drained σ live runs₀ undo₀ room₀ cells₀ c₀ runs undo room cells c
   midst-end stop gone us ws sent r₀ w ct top s =
       let m = mid gone us ws sent r₀ w ct top s in
-      let stays : Steps.drain cells (m .us) (m .ws) ≡ record { cells = cells; uncommitted = m .us; waiting = m .ws; answers = [] } = drain-stays cells (m .us) (m .ws) (why m stop) in
-      let e : record { cells = cells; uncommitted = m .us; waiting = m .ws; answers = m .more ++ [] } ≡ sending sent (Steps.drain cells₀ us ws) = ap (sending (m .more)) (sym stays) ∙ m .rest in
+      let stays : Steps.drain σ cells (m .us) (m .ws) ≡ record { cells = cells; uncommitted = m .us; waiting = m .ws; answers = [] } = drain-stays σ cells (m .us) (m .ws) (why m stop) in
+      let e : record { cells = cells; uncommitted = m .us; waiting = m .ws; answers = m .more ++ [] } ≡ sending sent (Steps.drain σ cells₀ us ws) = ap (sending (m .more)) (sym stays) ∙ m .rest in
       record {
         gone = m .gone;
-        work = finish (m .gone) (m .us) (m .ws) (m .more) (sent ++ Steps.drain cells₀ us ws .answers) _ _ (ap (λ (q : Queues). q .uncommitted) e) (ap (λ (q : Queues). q .waiting) e) (sym (append-nil (m .more)) ∙ ap (λ (q : Queues). q .answers) e) (m .work);
+        work = finish (m .gone) (m .us) (m .ws) (m .more) (sent ++ Steps.drain σ cells₀ us ws .answers) _ _ (ap (λ (q : Queues). q .uncommitted) e) (ap (λ (q : Queues). q .waiting) e) (sym (append-nil (m .more)) ∙ ap (λ (q : Queues). q .answers) e) (m .work);
         stands = ap (λ (q : Queues). q .cells) e;
       }
     where
@@ -210,19 +214,20 @@ module _ (live runs₀ undo₀ room₀ : List ℕ) (cells₀ : Cells) (c₀ : Co
       finish g us₁ ws₁ as₁ as₂ us₂ ws₂ eu ew ea k =
           subst (λ (x : List Answer). Work live runs undo room c g us₂ ws₂ x r₀) ea (subst₂ (λ (x : List Uncommitted) (y : List Waiting). Work live runs undo room c g x y as₁ r₀) eu ew k)
 
-      why : (m : Mid live runs undo room cells c sent r₀ ct top (Steps.drain cells₀ us ws)) → (c .waiting ≡ 0) ⊎ (mayTakeRow runs (c .uncommitted) ≡ false) → (m .ws ≡ []) ⊎ (mayTake (m .us) ≡ false)
+      why : (m : Mid σ live runs undo room cells c sent r₀ ct top (Steps.drain σ cells₀ us ws)) → (c .waiting ≡ 0) ⊎ (mayTakeRow σ runs (c .uncommitted) ≡ false) → (m .ws ≡ []) ⊎ (mayTake σ (m .us) ≡ false)
       why m (inl z) = inl (none (m .ws) (m .work .waiting ∙ z))
         where
           none : (l : List Waiting) → length l ≡ 0 → l ≡ []
           none [] h = refl
           none (x ∷ l) h = absurd (omega arith)
-      why m (inr z) = inr (sym (may-take-back (m .us) runs (c .uncommitted) (known-of ct (m .us) (m .sound .each)) (m .work .at-runs) (m .work .uncommitted)) ∙ z)
+      why m (inr z) = inr (sym (may-take-back σ (m .us) runs (c .uncommitted) (known-of ct (m .us) (m .sound .each)) (m .work .at-runs) (m .work .uncommitted)) ∙ z)
 
 -- where the drain may go on, fewer than 16 are uncommitted
-pub room-under : (runs : List ℕ) (n : ℕ) → mayTakeRow runs n ≡ true → n < 16
-room-under runs n h = go (eqb n 0) refl (leb 16 n) refl h
+pub room-under : (σ : Scheme) (runs : List ℕ) (n : ℕ) → mayTakeRow σ runs n ≡ true → n < 16
+room-under σ runs n h = go (blocking σ) (eqb n 0) refl (leb 16 n) refl h
   where
-    go : (a : Bool) → eqb n 0 ≡ a → (b : Bool) → leb 16 n ≡ b → pick a true (pick b false (pick (eqb (getD runs (16 * (n - 1) + 1) 0) 1) true (eqb (getD runs (16 * (n - 1) + 1) 0) 2))) ≡ true → n < 16
-    go true e b f h = let z : n ≡ 0 = eqb-true n 0 e in omega arith
-    go false e true f h = absurd (true≢false (sym h))
-    go false e false f h = leb-false 16 n f
+    go : (s a : Bool) → eqb n 0 ≡ a → (b : Bool) → leb 16 n ≡ b → pick s a (pick a true (pick b false (pick (eqb (getD runs (16 * (n - 1) + 1) 0) 1) true (eqb (getD runs (16 * (n - 1) + 1) 0) 2)))) ≡ true → n < 16
+    go s true e b f h = let z : n ≡ 0 = eqb-true n 0 e in omega arith
+    go true false e b f h = absurd (true≢false (sym h))
+    go false false e true f h = absurd (true≢false (sym h))
+    go false false e false f h = leb-false 16 n f

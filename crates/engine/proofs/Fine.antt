@@ -12,6 +12,7 @@ use Rattle.model.specs.Steps.{undone, noted, Ran, runFrom, run, begun, again, o
 use Rattle.model.specs.Refusals.{Arrive, Commit, Abort, request, taken}
 use Rattle.model.specs.declared.Op.{Op}
 use Rattle.model.specs.declared.Fragment.{Fragment}
+use Rattle.model.specs.declared.Scheme.{Scheme}
 use Rattle.model.specs.declared.Event.{Event}
 use Rattle.model.specs.declared.Undo.{Undo}
 use Rattle.model.specs.declared.Did.the-variants.{Number, Fails}
@@ -79,16 +80,16 @@ placed-fine (u ∷ us) w cs k e = go (multi (w .fragment) && oneCoordinator (w .
     go false = (join (Held (run (w .fragment) cs [] .outcome)) (run-small (w .fragment) cs [] e), tt)
     go true = (join Sent (omega arith), (run-small (w .fragment) cs [] e, tt))
 
-drain-fine : (cs : Cells) (us : List Uncommitted) (ws : List Waiting) → All Kept us → All Eight ws → Fine (drain cs us ws)
+drain-fine : (σ : Scheme) (cs : Cells) (us : List Uncommitted) (ws : List Waiting) → All Kept us → All Eight ws → Fine (drain σ cs us ws)
 unfolding drain
-drain-fine cs us [] k e = record { uncommitted = k; waiting = tt; answers = tt }
-drain-fine cs us (w ∷ ws) k e =
+drain-fine σ cs us [] k e = record { uncommitted = k; waiting = tt; answers = tt }
+drain-fine σ cs us (w ∷ ws) k e =
     let p : Place = placed us w (run (w .fragment) cs []) in
     let h = placed-fine us w cs k (e .0) in
-    go (mayTake us) (h .1) (drain-fine (run (w .fragment) cs [] .cells) (p .uncommitted) ws (h .0) (e .1))
+    go (mayTake σ us) (h .1) (drain-fine σ (run (w .fragment) cs [] .cells) (p .uncommitted) ws (h .0) (e .1))
   where
     q : Queues
-    q = drain (run (w .fragment) cs [] .cells) (placed us w (run (w .fragment) cs []) .uncommitted) ws
+    q = drain σ (run (w .fragment) cs [] .cells) (placed us w (run (w .fragment) cs []) .uncommitted) ws
 
     go : (b : Bool) → All Small (placed us w (run (w .fragment) cs []) .answers) → Fine q
         → Fine (elim b [ false ↦ record { cells = cs; uncommitted = us; waiting = w ∷ ws; answers = [] } | true ↦ sending (placed us w (run (w .fragment) cs []) .answers) q ])
@@ -125,38 +126,38 @@ pub rows-eight : (us : List Uncommitted) (ws : List Waiting) → All Kept us →
 rows-eight [] ws k e = e
 rows-eight (u ∷ us) ws k e = (k .0 .0, rows-eight us ws (k .1) e)
 
-joined-fine : (n : ℕ) (f : Fragment) (cs : Cells) (us : List Uncommitted) (ws : List Waiting) → length (f .row) ≡ 8 → All Kept us → All Eight ws → Fine (joined n f cs us ws)
-joined-fine n f cs us ws h k e =
+joined-fine : (σ : Scheme) (n : ℕ) (f : Fragment) (cs : Cells) (us : List Uncommitted) (ws : List Waiting) → length (f .row) ≡ 8 → All Kept us → All Eight ws → Fine (joined σ n f cs us ws)
+joined-fine σ n f cs us ws h k e =
     let w : Waiting = record { number = n; fragment = f } in
-    drain-fine cs us (ws ++ (w ∷ [])) k (all-append Eight ws (w ∷ []) e (h, tt))
+    drain-fine σ cs us (ws ++ (w ∷ [])) k (all-append Eight ws (w ∷ []) e (h, tt))
 
-arrived-fine : (n : ℕ) (f : Fragment) (cs : Cells) (us : List Uncommitted) (ws : List Waiting) → length (f .row) ≡ 8 → All Kept us → All Eight ws → Fine (arrived n f cs us ws)
-arrived-fine n f cs [] ws h k e = joined-fine n f cs [] ws h k e
-arrived-fine n f cs (u ∷ us) ws h k e = go (eqb (u .number) n)
+arrived-fine : (σ : Scheme) (n : ℕ) (f : Fragment) (cs : Cells) (us : List Uncommitted) (ws : List Waiting) → length (f .row) ≡ 8 → All Kept us → All Eight ws → Fine (arrived σ n f cs us ws)
+arrived-fine σ n f cs [] ws h k e = joined-fine σ n f cs [] ws h k e
+arrived-fine σ n f cs (u ∷ us) ws h k e = go (eqb (u .number) n)
   where
     r : Ran
     r = run f cs (u .undo)
 
-    go : (b : Bool) → Fine (elim b [ false ↦ joined n f cs (u ∷ us) ws | true ↦ continued f cs u us ws ])
-    go false = joined-fine n f cs (u ∷ us) ws h k e
-    go true = sending-fine (answer (u .number) 0 (r .outcome) ∷ []) (drain (r .cells) (again u f r ∷ us) ws) (run-small f cs (u .undo) h, tt)
-        (drain-fine (r .cells) (again u f r ∷ us) ws ((k .0 .0, omega arith), k .1) e)
+    go : (b : Bool) → Fine (elim b [ false ↦ joined σ n f cs (u ∷ us) ws | true ↦ continued σ f cs u us ws ])
+    go false = joined-fine σ n f cs (u ∷ us) ws h k e
+    go true = sending-fine (answer (u .number) 0 (r .outcome) ∷ []) (drain σ (r .cells) (again u f r ∷ us) ws) (run-small f cs (u .undo) h, tt)
+        (drain-fine σ (r .cells) (again u f r ∷ us) ws ((k .0 .0, omega arith), k .1) e)
 
-committed-fine : (cs : Cells) (us : List Uncommitted) (ws : List Waiting) → All Kept us → All Eight ws → Fine (committed cs us ws)
-committed-fine cs [] ws k e = record { uncommitted = tt; waiting = e; answers = tt }
-committed-fine cs (u ∷ us) ws k e =
+committed-fine : (σ : Scheme) (cs : Cells) (us : List Uncommitted) (ws : List Waiting) → All Kept us → All Eight ws → Fine (committed σ cs us ws)
+committed-fine σ cs [] ws k e = record { uncommitted = tt; waiting = e; answers = tt }
+committed-fine σ cs (u ∷ us) ws k e =
     let x = settled-fine us (k .1) in
-    sending-fine (settled us .answers) (drain cs (settled us .uncommitted) ws) (x .1) (drain-fine cs (settled us .uncommitted) ws (x .0) e)
+    sending-fine (settled us .answers) (drain σ cs (settled us .uncommitted) ws) (x .1) (drain-fine σ cs (settled us .uncommitted) ws (x .0) e)
 
-aborted-fine : (cs : Cells) (us : List Uncommitted) (ws : List Waiting) → All Kept us → All Eight ws → Fine (aborted cs us ws)
-aborted-fine cs [] ws k e = record { uncommitted = tt; waiting = e; answers = tt }
-aborted-fine cs (u ∷ us) ws k e = drain-fine _ [] (map requeued us ++ ws) tt (rows-eight us ws (k .1) e)
+aborted-fine : (σ : Scheme) (cs : Cells) (us : List Uncommitted) (ws : List Waiting) → All Kept us → All Eight ws → Fine (aborted σ cs us ws)
+aborted-fine σ cs [] ws k e = record { uncommitted = tt; waiting = e; answers = tt }
+aborted-fine σ cs (u ∷ us) ws k e = drain-fine σ _ [] (map requeued us ++ ws) tt (rows-eight us ws (k .1) e)
 
 -- an accepted request
-pub taken-fine : (v : Event) (e : Engine) (cs : Cells) → Words v → All Kept (e .uncommitted) → All Eight (e .waiting) → Fine (taken (request v) e cs)
-taken-fine v e cs h k w = go (eqb (v .kind) 1) (eqb (v .kind) 2)
+pub taken-fine : (σ : Scheme) (v : Event) (e : Engine) (cs : Cells) → Words v → All Kept (e .uncommitted) → All Eight (e .waiting) → Fine (taken σ (request v) e cs)
+taken-fine σ v e cs h k w = go (eqb (v .kind) 1) (eqb (v .kind) 2)
   where
-    go : (a b : Bool) → Fine (taken (elim a [ true ↦ Arrive (v .number) (v .fragment) | false ↦ elim b [ true ↦ Commit (v .number) | false ↦ Abort (v .number) ] ]) e cs)
-    go true b = arrived-fine (v .number) (v .fragment) cs (e .uncommitted) (e .waiting) h k w
-    go false true = committed-fine cs (e .uncommitted) (e .waiting) k w
-    go false false = aborted-fine cs (e .uncommitted) (e .waiting) k w
+    go : (a b : Bool) → Fine (taken σ (elim a [ true ↦ Arrive (v .number) (v .fragment) | false ↦ elim b [ true ↦ Commit (v .number) | false ↦ Abort (v .number) ] ]) e cs)
+    go true b = arrived-fine σ (v .number) (v .fragment) cs (e .uncommitted) (e .waiting) h k w
+    go false true = committed-fine σ cs (e .uncommitted) (e .waiting) k w
+    go false false = aborted-fine σ cs (e .uncommitted) (e .waiting) k w

@@ -14,6 +14,8 @@ use Rattle.model.specs.Transactions.{Reply, Held, Sent, Uncommitted, Waiting, A
 use Rattle.model.specs.Steps.{run, begun, oneCoordinator, nearest, lastFinished, mayTake, Place, placed, requeued, Queues}
 use Rattle.model.specs.Steps as Steps
 use Rattle.model.specs.declared.Fragment.{Fragment}
+use Rattle.model.specs.declared.Scheme.{Scheme}
+use Rattle.model.proofs.Taking.{may-less}
 use Rattle.model.specs.declared.Undo.{Undo}
 use Rattle.model.proofs.Chain.{All, all-append, all-map}
 use Rattle.model.proofs.Tests.{and-left}
@@ -138,7 +140,7 @@ pub record Facts (live runs undo room : List ℕ) (cells : Cells) (c : Counts) (
 module _ (live runs undo room : List ℕ) (cells : Cells) (c : Counts) (number : ℕ) (f : Fragment) (r : Ran) (m la one ans joins : Bool) (near a′ : ℕ) (runs′ undo′ room′ : List ℕ) (cells′ : Cells) (c′ : Counts)
     (facts : Facts live runs undo room cells c number f r m la one ans joins near a′ runs′ undo′ room′ cells′ c′) (small : Small c)
     (gone : List Waiting) (us : List Uncommitted) (w : Waiting) (ws : List Waiting) (sent : List Answer) (room₀ : List ℕ) (work : Work live runs undo room c gone us (w ∷ ws) sent room₀)
-    (ct top : ℕ) (s : Sound ct top us (w ∷ ws)) (take : mayTake us ≡ true) where
+    (ct top : ℕ) (s : Sound ct top us (w ∷ ws)) (σ : Scheme) (take : mayTake σ us ≡ true) where
   whole : gone ++ liveRows us (w ∷ ws) ≡ (gone ++ map requeued us) ++ w ∷ ws
   whole = sym (append-assoc gone (map requeued us) (w ∷ ws))
 
@@ -217,9 +219,9 @@ module _ (live runs undo room : List ℕ) (cells : Cells) (c : Counts) (number :
   few-us : length us < 16
   few-us = go us take
     where
-      go : (l : List Uncommitted) → mayTake l ≡ true → length l < 16
+      go : (l : List Uncommitted) → mayTake σ l ≡ true → length l < 16
       go [] h = omega arith
-      go (u ∷ l) h = ltb-true (length (u ∷ l)) depth (and-left (ltb (length (u ∷ l)) depth) (lastFinished (u ∷ l)) h)
+      go (u ∷ l) h = ltb-true (length (u ∷ l)) depth (may-less σ u l h)
 
   runs-length : length (allRuns us) ≡ 16 * c .uncommitted
   runs-length = length-runs us (all-map Known Fit (λ u k. k .0) us (known-of ct us (s .each))) ∙ ap (λ (n : ℕ). 16 * n) (work .uncommitted)

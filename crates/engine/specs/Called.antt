@@ -1,4 +1,4 @@
--- What a call does, of every record, event, lent cells and lent answer room: the list engine's step at the record's view.
+-- What a call does, of every scheme, record, event, lent cells and lent answer room: the list engine's step at the record's view.
 use Prim.Native.Nat.{ℕ, zero, suc}
 use mathlib.Core.List.{List}
 use lib.ListN.{length}
@@ -6,6 +6,7 @@ use Rattle.model.specs.Operations.{Cells}
 use Rattle.model.specs.Refusals.{Stepped, step}
 use Rattle.model.specs.Refusals as Refusals
 use Rattle.model.specs.declared.Event.{Event}
+use Rattle.model.specs.declared.Scheme.{Scheme}
 use Rattle.refusals.specs.Rest.{callOf}
 use Rattle.record.specs.declared.Record.{Record}
 use Rattle.record.specs.Words.{pack}
@@ -14,25 +15,25 @@ use Rattle.engine.specs.declared.Called.{Called}
 use Rattle.engine.specs.declared.Fresh.{Fresh}
 use Rattle.engine.specs.declared.Turned.{Turned}
 
-unfoldable pub stepped : Record → Event → Cells → List ℕ → Stepped
-stepped r v cells room = step (view r) (callOf v cells room)
+unfoldable pub stepped : Scheme → Record → Event → Cells → List ℕ → Stepped
+stepped σ r v cells room = step (view r) (callOf σ v cells room)
 
 -- "0 is accepted": then the record laid out with every unused place zero; a refusal gives the very record that came
 abbrev pub nextOf : Record → Stepped → Record
 nextOf r s = elim (s .number) [ zero ↦ pack (s .engine) | suc k ↦ r ]
 
 -- the returned number, the count of answers and the next record
-unfoldable pub called : Record → Event → Cells → List ℕ → Called
-called r v cells room =
-    let s = stepped r v cells room in
+unfoldable pub called : Scheme → Record → Event → Cells → List ℕ → Called
+called σ r v cells room =
+    let s = stepped σ r v cells room in
     record { number = s .number; answers = length (s .answers); next = nextOf r s }
 
 -- the lent cells and the lent room afterwards
-abbrev pub cellsAfter : Record → Event → Cells → List ℕ → Cells
-cellsAfter r v cells room = stepped r v cells room .cells
+abbrev pub cellsAfter : Scheme → Record → Event → Cells → List ℕ → Cells
+cellsAfter σ r v cells room = stepped σ r v cells room .cells
 
-abbrev pub roomAfter : Record → Event → Cells → List ℕ → List ℕ
-roomAfter r v cells room = stepped r v cells room .room
+abbrev pub roomAfter : Scheme → Record → Event → Cells → List ℕ → List ℕ
+roomAfter σ r v cells room = stepped σ r v cells room .room
 
 -- a record from its counts and its rows, and what a call on lent rows leaves, as one record
 abbrev pub recordBy : ℕ → ℕ → ℕ → ℕ → List ℕ → List ℕ → List ℕ → Record

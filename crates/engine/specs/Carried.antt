@@ -26,10 +26,10 @@ AllWords (c ∷ calls) = Words (c .event) × AllWords calls
 
 -- what a call returns, and its room afterwards
 abbrev pub returned : Record → Call → Called
-returned r c = called r (c .event) (c .lent) (c .room)
+returned r c = called (c .scheme) r (c .event) (c .lent) (c .room)
 
 abbrev pub roomOf : Record → Call → List ℕ
-roomOf r c = roomAfter r (c .event) (c .lent) (c .room)
+roomOf r c = roomAfter (c .scheme) r (c .event) (c .lent) (c .room)
 
 -- the answer whose 16 words start at b: transaction, dependence, place, count, numbers
 unfoldable pub answerFrom : List ℕ → ℕ → Answer
@@ -51,7 +51,7 @@ pub record RecordRun : Type 0 where
 abbrev pub onwardR : RecordRun → Call → RecordRun
 onwardR r c = record {
   kept = returned (r .kept) c .next;
-  cells = Demand.kept (returned (r .kept) c .number) (r .cells) (cellsAfter (r .kept) (c .event) (c .lent) (c .room));
+  cells = Demand.kept (returned (r .kept) c .number) (r .cells) (cellsAfter (c .scheme) (r .kept) (c .event) (c .lent) (c .room));
   log = noticed (returned (r .kept) c .number) (request (c .event)) (r .log);
 }
 

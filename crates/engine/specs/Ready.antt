@@ -7,14 +7,15 @@ use lib.ListN.{length}
 use Rattle.model.specs.Operations.{Cells, pick}
 use Rattle.model.specs.Transactions.{Engine}
 use Rattle.model.specs.declared.Event.{Event}
+use Rattle.model.specs.declared.Scheme.{Scheme}
 use Rattle.model.proofs.Passing.{Passed}
 use Rattle.refusals.specs.Rest.{callOf}
 use Rattle.engine.specs.Work.{Work}
 use Rattle.engine.specs.declared.queues.Counts.{Counts}
 
-pub record Ready (live runs undo room : List ℕ) (cells : Cells) (c : Counts) (v : Event) (e : Engine) : Type 0 where
+pub record Ready (σ : Scheme) (live runs undo room : List ℕ) (cells : Cells) (c : Counts) (v : Event) (e : Engine) : Type 0 where
   pub work : Work live runs undo room c [] (e .uncommitted) (e .waiting) [] room
-  pub passed : Passed e (callOf v cells room)
+  pub passed : Passed e (callOf σ v cells room)
   pub words : length (v .fragment .row) ≡ 8
 
 -- the largest number accepted, by kind

@@ -12,6 +12,8 @@ use Rattle.record.specs.View.{numbersFrom}
 use Rattle.model.specs.Transactions.{Uncommitted, Waiting, Answer, answer, undoList, filled, front}
 use Rattle.model.specs.Steps.{run, requeued, mayTake, placed, Queues, drain, again, heldBy, sent, Place, settled, undone}
 use Rattle.model.specs.declared.Fragment.{Fragment}
+use Rattle.model.specs.declared.Scheme.{Scheme}
+use Rattle.model.specs.declared.Scheme.the-variants.{Speculation, Blocking}
 use Rattle.operations.specs.Laid.{padded, flat}
 use Rattle.operations.specs.declared.Ran.{Ran}
 use Rattle.record.specs.Words.{allRows, allRuns, liveRows}
@@ -119,19 +121,24 @@ pub record Left (live runs undo room : List ℕ) (c : Counts) (cells : Cells) (s
 abbrev pub Turned : List ℕ → List ℕ → List ℕ → List ℕ → Cells → Counts → List ℕ → List ℕ → List ℕ → Cells → Counts → Type 0
 Turned live runs undo room cells c runs′ undo′ room′ cells′ c′ =
     (gone : List Waiting) (us : List Uncommitted) (w : Waiting) (ws : List Waiting) (sent : List Answer) (room₀ : List ℕ) → Work live runs undo room c gone us (w ∷ ws) sent room₀
-    → (ct top : ℕ) → Sound ct top us (w ∷ ws) → mayTake us ≡ true
+    → (ct top : ℕ) → Sound ct top us (w ∷ ws) → (σ : Scheme) → mayTake σ us ≡ true
     → Left live runs′ undo′ room′ c′ cells′ sent room₀
     (record { cells = run (w .fragment) cells [] .cells; uncommitted = placed us w (run (w .fragment) cells []) .uncommitted; waiting = ws; answers = placed us w (run (w .fragment) cells []) .answers })
 
--- may the drain go on: the word of the last one's state says that it is finished
-abbrev pub mayTakeRow : List ℕ → ℕ → Bool
-mayTakeRow runs u = pick (eqb u 0) true (pick (leb 16 u) false (pick (eqb (getD runs (16 * (u - 1) + 1) 0) 1) true (eqb (getD runs (16 * (u - 1) + 1) 0) 2)))
+abbrev pub blocking : Scheme → Bool
+blocking Speculation = false
+blocking Blocking = true
+
+-- may the drain go on: nothing is uncommitted, or the scheme does not block, fewer than 16 are and the word of the last one's state says that it is
+-- finished
+abbrev pub mayTakeRow : Scheme → List ℕ → ℕ → Bool
+mayTakeRow σ runs u = pick (blocking σ) (eqb u 0) (pick (eqb u 0) true (pick (leb 16 u) false (pick (eqb (getD runs (16 * (u - 1) + 1) 0) 1) true (eqb (getD runs (16 * (u - 1) + 1) 0) 2))))
 
 -- a whole drain
-abbrev pub Drained : List ℕ → List ℕ → List ℕ → List ℕ → Cells → Counts → List ℕ → List ℕ → List ℕ → Cells → Counts → Type 0
-Drained live runs undo room cells c runs′ undo′ room′ cells′ c′ =
+abbrev pub Drained : Scheme → List ℕ → List ℕ → List ℕ → List ℕ → Cells → Counts → List ℕ → List ℕ → List ℕ → Cells → Counts → Type 0
+Drained σ live runs undo room cells c runs′ undo′ room′ cells′ c′ =
     (gone : List Waiting) (us : List Uncommitted) (ws : List Waiting) (sent : List Answer) (room₀ : List ℕ) → Work live runs undo room c gone us ws sent room₀
-    → (ct top : ℕ) → Sound ct top us ws → Left live runs′ undo′ room′ c′ cells′ sent room₀ (drain cells us ws)
+    → (ct top : ℕ) → Sound ct top us ws → Left live runs′ undo′ room′ c′ cells′ sent room₀ (drain σ cells us ws)
 
 -- counts before anything has settled: room for an answer of each live one
 pub record Fair (c : Counts) : Type 0 where

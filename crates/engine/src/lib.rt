@@ -1,4 +1,4 @@
-// The engine of one partition: `start` and `call`.
+// The engine of one partition: `start`, `call` by speculation, and `call_by` a scheme.
 ghost use mathlib.Core.Path.{_≡_};
 ghost use mathlib.Core.List.{List, [], _∷_};
 ghost use Prim.Native.Nat.{ℕ, _+_, _*_, _≤_};
@@ -7,6 +7,8 @@ ghost use lib.Seq.{sets};
 ghost use Rattle.model.specs.Transactions.{Engine};
 ghost use Rattle.model.specs.Refusals.{refusal, request, taken};
 ghost use Rattle.model.specs.Refusals as Refusals;
+ghost use Rattle.model.specs.declared.Scheme.{Scheme};
+ghost use Rattle.model.specs.declared.Scheme.the-variants.{Speculation};
 ghost use Rattle.record.specs.Words.{rowWords, pack};
 ghost use Rattle.record.specs.View.{viewOf};
 ghost use Rattle.refusals.specs.Rest.{callOf};
@@ -16,6 +18,7 @@ ghost use Rattle.engine.specs.Ready.{Ready, largestBy};
 use crate::queues::Counts;
 use model::Event;
 use model::Fragment;
+use model::Scheme;
 use record::Record;
 
 mod queues;
@@ -49,7 +52,7 @@ pub struct Fresh {
     pub next: Record,
 }
 
-// The refusal of a call, 0 for none: soundness first, then the other rows of the table.
+// The refusal of a call, 0 for none, whatever the scheme: soundness first, then the other rows of the table.
 pub(crate) fn refused(
     count: u32,
     largest: u32,
@@ -62,7 +65,7 @@ pub(crate) fn refused(
     room: &[u32],
     event: Event,
 ) -> u32
-    ensures { λ r. ⌜ r ≡ refusal (viewOf count largest uncommitted waiting (now (live .entry)) (now (runs .entry)) (now (undo .entry))) (callOf event (now (cells .entry)) (now (room .entry))) ⌝ }
+    ensures { λ r. ⌜ ((σ : Scheme) → r ≡ refusal (viewOf count largest uncommitted waiting (now (live .entry)) (now (runs .entry)) (now (undo .entry))) (callOf σ event (now (cells .entry)) (now (room .entry)))) ⌝ }
 {
     if soundness::is_sound(count, largest, uncommitted, waiting, live, runs, undo) {
         refusals::refused_row(
@@ -95,6 +98,7 @@ pub(crate) fn join_waiting(live: &mut [u32], c: Counts, number: u32, f: Fragment
 
 // An accepted fragment: the front's, or a new one that waits; then the drain.
 pub(crate) fn accept_fragment(
+    scheme: Scheme,
     live: &mut [u32],
     runs: &mut [u32],
     undo: &mut [u32],
@@ -103,23 +107,24 @@ pub(crate) fn accept_fragment(
     c: Counts,
     event: Event,
 ) -> Counts
-    requires { ⌜ ((e : Engine) × Ready (now live) (now runs) (now undo) (now room) (now cells) c event e) ⌝ }
+    requires { ⌜ ((e : Engine) × Ready scheme (now live) (now runs) (now undo) (now room) (now cells) c event e) ⌝ }
     requires { ⌜ event .kind ≡ 1 ⌝ }
-    ensures { λ d. ⌜ ((e : Engine) → Ready (now (live .entry)) (now (runs .entry)) (now (undo .entry)) (now (room .entry)) (now (cells .entry)) c event e → Left (now (live .exit)) (now (runs .exit)) (now (undo .exit)) (now (room .exit)) d (now (cells .exit)) [] (now (room .entry)) (taken (request event) e (now (cells .entry)))) ⌝ }
+    ensures { λ d. ⌜ ((e : Engine) → Ready scheme (now (live .entry)) (now (runs .entry)) (now (undo .entry)) (now (room .entry)) (now (cells .entry)) c event e → Left (now (live .exit)) (now (runs .exit)) (now (undo .exit)) (now (room .exit)) d (now (cells .exit)) [] (now (room .entry)) (taken scheme (request event) e (now (cells .entry)))) ⌝ }
     ensures { λ d. ⌜ d .first + d .uncommitted + d .waiting ≤ 64 ⌝ }
 {
     let number = event.number;
     let f = event.fragment;
     if refusals::is_front(c.uncommitted, live, number) {
         let d = queues::continue_front(live, runs, undo, cells, room, c, f);
-        return queues::drain(live, runs, undo, cells, room, d);
+        return queues::drain(scheme, live, runs, undo, cells, room, d);
     }
     let d = join_waiting(live, c, number, f);
-    queues::drain(live, runs, undo, cells, room, d)
+    queues::drain(scheme, live, runs, undo, cells, room, d)
 }
 
 // An accepted commit.
 pub(crate) fn accept_commit(
+    scheme: Scheme,
     live: &[u32],
     runs: &mut [u32],
     undo: &mut [u32],
@@ -128,17 +133,18 @@ pub(crate) fn accept_commit(
     c: Counts,
     event: Event,
 ) -> Counts
-    requires { ⌜ ((e : Engine) × Ready (now live) (now runs) (now undo) (now room) (now cells) c event e) ⌝ }
+    requires { ⌜ ((e : Engine) × Ready scheme (now live) (now runs) (now undo) (now room) (now cells) c event e) ⌝ }
     requires { ⌜ event .kind ≡ 2 ⌝ }
-    ensures { λ d. ⌜ ((e : Engine) → Ready (now (live .entry)) (now (runs .entry)) (now (undo .entry)) (now (room .entry)) (now (cells .entry)) c event e → Left (now (live .entry)) (now (runs .exit)) (now (undo .exit)) (now (room .exit)) d (now (cells .exit)) [] (now (room .entry)) (taken (request event) e (now (cells .entry)))) ⌝ }
+    ensures { λ d. ⌜ ((e : Engine) → Ready scheme (now (live .entry)) (now (runs .entry)) (now (undo .entry)) (now (room .entry)) (now (cells .entry)) c event e → Left (now (live .entry)) (now (runs .exit)) (now (undo .exit)) (now (room .exit)) d (now (cells .exit)) [] (now (room .entry)) (taken scheme (request event) e (now (cells .entry)))) ⌝ }
     ensures { λ d. ⌜ d .first + d .uncommitted + d .waiting ≤ 64 ⌝ }
 {
     let d = queues::commit(live, runs, undo, room, c);
-    queues::drain(live, runs, undo, cells, room, d)
+    queues::drain(scheme, live, runs, undo, cells, room, d)
 }
 
 // An accepted abort.
 pub(crate) fn accept_abort(
+    scheme: Scheme,
     live: &[u32],
     runs: &mut [u32],
     undo: &mut [u32],
@@ -147,17 +153,18 @@ pub(crate) fn accept_abort(
     c: Counts,
     event: Event,
 ) -> Counts
-    requires { ⌜ ((e : Engine) × Ready (now live) (now runs) (now undo) (now room) (now cells) c event e) ⌝ }
+    requires { ⌜ ((e : Engine) × Ready scheme (now live) (now runs) (now undo) (now room) (now cells) c event e) ⌝ }
     requires { ⌜ (event .kind ≡ 1 → ⊥) × (event .kind ≡ 2 → ⊥) ⌝ }
-    ensures { λ d. ⌜ ((e : Engine) → Ready (now (live .entry)) (now (runs .entry)) (now (undo .entry)) (now (room .entry)) (now (cells .entry)) c event e → Left (now (live .entry)) (now (runs .exit)) (now (undo .exit)) (now (room .exit)) d (now (cells .exit)) [] (now (room .entry)) (taken (request event) e (now (cells .entry)))) ⌝ }
+    ensures { λ d. ⌜ ((e : Engine) → Ready scheme (now (live .entry)) (now (runs .entry)) (now (undo .entry)) (now (room .entry)) (now (cells .entry)) c event e → Left (now (live .entry)) (now (runs .exit)) (now (undo .exit)) (now (room .exit)) d (now (cells .exit)) [] (now (room .entry)) (taken scheme (request event) e (now (cells .entry)))) ⌝ }
     ensures { λ d. ⌜ d .first + d .uncommitted + d .waiting ≤ 64 ⌝ }
 {
     let d = queues::abort(runs, undo, cells, c);
-    queues::drain(live, runs, undo, cells, room, d)
+    queues::drain(scheme, live, runs, undo, cells, room, d)
 }
 
 // An accepted event: its step, and the drain.
 pub(crate) fn accept(
+    scheme: Scheme,
     live: &mut [u32],
     runs: &mut [u32],
     undo: &mut [u32],
@@ -166,17 +173,17 @@ pub(crate) fn accept(
     c: Counts,
     event: Event,
 ) -> Counts
-    requires { ⌜ ((e : Engine) × Ready (now live) (now runs) (now undo) (now room) (now cells) c event e) ⌝ }
-    ensures { λ d. ⌜ ((e : Engine) → Ready (now (live .entry)) (now (runs .entry)) (now (undo .entry)) (now (room .entry)) (now (cells .entry)) c event e → Left (now (live .exit)) (now (runs .exit)) (now (undo .exit)) (now (room .exit)) d (now (cells .exit)) [] (now (room .entry)) (taken (request event) e (now (cells .entry)))) ⌝ }
+    requires { ⌜ ((e : Engine) × Ready scheme (now live) (now runs) (now undo) (now room) (now cells) c event e) ⌝ }
+    ensures { λ d. ⌜ ((e : Engine) → Ready scheme (now (live .entry)) (now (runs .entry)) (now (undo .entry)) (now (room .entry)) (now (cells .entry)) c event e → Left (now (live .exit)) (now (runs .exit)) (now (undo .exit)) (now (room .exit)) d (now (cells .exit)) [] (now (room .entry)) (taken scheme (request event) e (now (cells .entry)))) ⌝ }
     ensures { λ d. ⌜ d .first + d .uncommitted + d .waiting ≤ 64 ⌝ }
 {
     if event.kind == 1 {
-        return accept_fragment(live, runs, undo, cells, room, c, event);
+        return accept_fragment(scheme, live, runs, undo, cells, room, c, event);
     }
     if event.kind == 2 {
-        return accept_commit(live, runs, undo, cells, room, c, event);
+        return accept_commit(scheme, live, runs, undo, cells, room, c, event);
     }
-    accept_abort(live, runs, undo, cells, room, c, event)
+    accept_abort(scheme, live, runs, undo, cells, room, c, event)
 }
 
 // The largest number accepted, after an accepted event.
@@ -192,6 +199,7 @@ pub(crate) fn largest_after(kind: u32, number: u32, largest: u32) -> u32
 
 // A call on a record whose rows are lent: refused with nothing touched, or carried out where the rows stand.
 pub fn turn(
+    scheme: Scheme,
     count: u32,
     largest: u32,
     uncommitted: u32,
@@ -203,9 +211,9 @@ pub fn turn(
     event: Event,
     room: &mut [u32],
 ) -> Turned
-    ensures { λ d. ⌜ turned count d (now (live .exit)) (now (runs .exit)) (now (undo .exit)) ≡ called (recordBy count largest uncommitted waiting (now (live .entry)) (now (runs .entry)) (now (undo .entry))) event (now (cells .entry)) (now (room .entry)) ⌝ }
-    ensures { λ d. ⌜ now (cells .exit) ≡ cellsAfter (recordBy count largest uncommitted waiting (now (live .entry)) (now (runs .entry)) (now (undo .entry))) event (now (cells .entry)) (now (room .entry)) ⌝ }
-    ensures { λ d. ⌜ now (room .exit) ≡ roomAfter (recordBy count largest uncommitted waiting (now (live .entry)) (now (runs .entry)) (now (undo .entry))) event (now (cells .entry)) (now (room .entry)) ⌝ }
+    ensures { λ d. ⌜ turned count d (now (live .exit)) (now (runs .exit)) (now (undo .exit)) ≡ called scheme (recordBy count largest uncommitted waiting (now (live .entry)) (now (runs .entry)) (now (undo .entry))) event (now (cells .entry)) (now (room .entry)) ⌝ }
+    ensures { λ d. ⌜ now (cells .exit) ≡ cellsAfter scheme (recordBy count largest uncommitted waiting (now (live .entry)) (now (runs .entry)) (now (undo .entry))) event (now (cells .entry)) (now (room .entry)) ⌝ }
+    ensures { λ d. ⌜ now (room .exit) ≡ roomAfter scheme (recordBy count largest uncommitted waiting (now (live .entry)) (now (runs .entry)) (now (undo .entry))) event (now (cells .entry)) (now (room .entry)) ⌝ }
 {
     let number = refused(
         count,
@@ -236,7 +244,7 @@ pub fn turn(
         entries: entries,
         answers: 0,
     };
-    let d = accept(live, runs, undo, cells, room, c, event);
+    let d = accept(scheme, live, runs, undo, cells, room, c, event);
     record::shift(
         live,
         28 * d.first,
@@ -251,16 +259,24 @@ pub fn turn(
     }
 }
 
-// One call, of any record, any lent cells, any event and any lent answer room: refused with nothing touched, or carried out.
-pub fn call(r: Record, cells: &mut [u32], event: Event, room: &mut [u32]) -> Called
-    ensures { λ d. ⌜ d ≡ called r event (now (cells .entry)) (now (room .entry)) ⌝ }
-    ensures { λ d. ⌜ now (cells .exit) ≡ cellsAfter r event (now (cells .entry)) (now (room .entry)) ⌝ }
-    ensures { λ d. ⌜ now (room .exit) ≡ roomAfter r event (now (cells .entry)) (now (room .entry)) ⌝ }
+// One call by a scheme, of any record, any lent cells, any event and any lent answer room: refused with nothing touched, or carried out. The
+// record keeps no scheme: a depot may change over at any call.
+pub fn call_by(
+    scheme: Scheme,
+    r: Record,
+    cells: &mut [u32],
+    event: Event,
+    room: &mut [u32],
+) -> Called
+    ensures { λ d. ⌜ d ≡ called scheme r event (now (cells .entry)) (now (room .entry)) ⌝ }
+    ensures { λ d. ⌜ now (cells .exit) ≡ cellsAfter scheme r event (now (cells .entry)) (now (room .entry)) ⌝ }
+    ensures { λ d. ⌜ now (room .exit) ≡ roomAfter scheme r event (now (cells .entry)) (now (room .entry)) ⌝ }
 {
     let mut live = r.live;
     let mut runs = r.runs;
     let mut undo = r.undo;
     let t = turn(
+        scheme,
         r.count,
         r.largest,
         r.uncommitted,
@@ -286,6 +302,15 @@ pub fn call(r: Record, cells: &mut [u32], event: Event, room: &mut [u32]) -> Cal
         answers: t.answers,
         next: next,
     }
+}
+
+// The same by 01's scheme, speculation.
+pub fn call(r: Record, cells: &mut [u32], event: Event, room: &mut [u32]) -> Called
+    ensures { λ d. ⌜ d ≡ called Speculation r event (now (cells .entry)) (now (room .entry)) ⌝ }
+    ensures { λ d. ⌜ now (cells .exit) ≡ cellsAfter Speculation r event (now (cells .entry)) (now (room .entry)) ⌝ }
+    ensures { λ d. ⌜ now (room .exit) ≡ roomAfter Speculation r event (now (cells .entry)) (now (room .entry)) ⌝ }
+{
+    call_by(Scheme::Speculation, r, cells, event, room)
 }
 
 // A record of so many cells with nothing live.

@@ -8,12 +8,14 @@ ghost use lib.Dec.{eqb};
 ghost use lib.ListN.{length, getD, replicate};
 ghost use lib.Seq.{sets};
 ghost use Rattle.operations.specs.Laid.{padded};
-ghost use Rattle.engine.specs.Work.{answerRow, runRow, stateWordAfter, begunRow, sameRow, oneRows, nearRow, nearRows, Small, answeredNow, joinsQueue, answered, joinedCounts, joinedWith, settledCounts, leftBy, requeuedCounts, waitingMore, withAnswers, Turned, Drained, mayTakeRow, Fair, holdsRow, heldRow, Dropped, SettledOne, multiRow, Singles, sentRow, Fronted, Settled, Committed, Continued, Aborted};
+ghost use Rattle.engine.specs.Work.{answerRow, runRow, stateWordAfter, begunRow, sameRow, oneRows, nearRow, nearRows, Small, answeredNow, joinsQueue, answered, joinedCounts, joinedWith, settledCounts, leftBy, requeuedCounts, waitingMore, withAnswers, Turned, Drained, blocking, mayTakeRow, Fair, holdsRow, heldRow, Dropped, SettledOne, multiRow, Singles, sentRow, Fronted, Settled, Committed, Continued, Aborted};
 ghost use Rattle.model.specs.declared.Fragment.{Fragment};
+ghost use Rattle.model.specs.declared.Scheme.{Scheme};
 ghost use Rattle.model.specs.Operations.{Cells};
 ghost use Rattle.record.specs.View.{numbersFrom};
 ghost use Rattle.model.specs.Operations.{pick};
 use model::Fragment;
+use model::Scheme;
 use operations::Ran;
 
 // Where the transactions of a call stand in the live row, and how far it has come: how many are gone in this call, how many are uncommitted
@@ -368,10 +370,23 @@ pub(crate) fn turn(
     join_if(joins, runs, undo, d, !sent, last, r)
 }
 
-// "either nothing is uncommitted or fewer than 16 are and the last of them is finished locally"
-pub(crate) fn may_take(runs: &[u32], uncommitted: u32) -> bool
-    ensures { λ r. ⌜ r ≡ mayTakeRow (now (runs .entry)) uncommitted ⌝ }
+// Does nothing run behind an uncommitted one?
+pub(crate) fn blocks(scheme: Scheme) -> bool
+    ensures { λ r. ⌜ r ≡ blocking scheme ⌝ }
 {
+    match scheme {
+        Scheme::Speculation => false,
+        Scheme::Blocking => true,
+    }
+}
+
+// "either nothing is uncommitted or fewer than 16 are and the last of them is finished locally"; blocking, nothing is uncommitted
+pub(crate) fn may_take(scheme: Scheme, runs: &[u32], uncommitted: u32) -> bool
+    ensures { λ r. ⌜ r ≡ mayTakeRow scheme (now (runs .entry)) uncommitted ⌝ }
+{
+    if blocks(scheme) {
+        return uncommitted == 0;
+    }
     if uncommitted == 0 {
         return true;
     }
@@ -385,8 +400,9 @@ pub(crate) fn may_take(runs: &[u32], uncommitted: u32) -> bool
     state == 2
 }
 
-// "Drain: while something waits, and either nothing is uncommitted or fewer than 16 are and the last of them is finished locally".
+// "Drain: while something waits, and" the scheme may take the first of them.
 pub(crate) fn drain(
+    scheme: Scheme,
     live: &[u32],
     runs: &mut [u32],
     undo: &mut [u32],
@@ -396,11 +412,11 @@ pub(crate) fn drain(
 ) -> Counts
     requires { ⌜ Small from ⌝ }
     ensures { λ d. ⌜ Small d ⌝ }
-    ensures { λ d. ⌜ Drained (now (live .entry)) (now (runs .entry)) (now (undo .entry)) (now (room .entry)) (now (cells .entry)) from (now (runs .exit)) (now (undo .exit)) (now (room .exit)) (now (cells .exit)) d ⌝ }
+    ensures { λ d. ⌜ Drained scheme (now (live .entry)) (now (runs .entry)) (now (undo .entry)) (now (room .entry)) (now (cells .entry)) from (now (runs .exit)) (now (undo .exit)) (now (room .exit)) (now (cells .exit)) d ⌝ }
 {
     let mut c = from;
     while 0 < c.waiting {
-        if !may_take(runs, c.uncommitted) {
+        if !may_take(scheme, runs, c.uncommitted) {
             return c;
         }
         c = turn(live, runs, undo, cells, room, c);

@@ -18,6 +18,7 @@ use Rattle.model.specs.Serial.{Tx, Decision, Open, Committed, Aborted, a
 use Rattle.model.specs.Demand.{SettlingOrder, QueueOrder, numbersOf, Log, known, at, extended, decided, logged, noticed, kept, Run, onward, runs, fresh, Lends, AllLend, Standing, Settles, Gone, Undecided, standing, settledOf, liveOf, uncommittedOf, CellsHold, Gives, PlainRight, NoAbort, DependentRight, Demand3}
 use Rattle.model.specs.declared.Event.{Event}
 use Rattle.model.specs.declared.Fragment.{Fragment}
+use Rattle.model.specs.declared.Scheme.{Scheme}
 use Rattle.model.proofs.Logs.{InOrder, serial-append, rises-weaken, rises-settled, rises-at, gives-at, settled-append, live-append, known-new, known-at, Grows, grows-same}
 use Rattle.model.proofs.Chain.{nearestTx, pend-multi-leaves, asTx, txOf, lives, Pend, InPast, Followed, All, all-mem, Inv, chain-cells, lives-length}
 use Rattle.model.proofs.Draining.{Plain, nearest-low}
@@ -86,35 +87,35 @@ got-cast cs₀ l l′ m t t′ as′ q e f g = subst (λ (x : Log). Got cs₀ l 
 
 -- A request that was accepted
 
-module _ (cs₀ : Cells) (ct top : ℕ) (ws : List Waiting) (cs : Cells) (l : Log) (rises : InOrder 0 top l) where
+module _ (σ : Scheme) (cs₀ : Cells) (ct top : ℕ) (ws : List Waiting) (cs : Cells) (l : Log) (rises : InOrder 0 top l) where
   abbrev engineOf : List Uncommitted → Engine
   engineOf us = record { count = ct; largest = top; uncommitted = us; waiting = ws }
 
   arrive-new : (us : List Uncommitted) (as′ : List Answer) (n : ℕ) (f : Fragment) → Inv cs₀ l cs us ws as′ → ltb top n ≡ true
-      → Got cs₀ l (logged (Arrive n f) l) (largestAfter (Arrive n f) (engineOf us)) as′ (joined n f cs us ws)
+      → Got cs₀ l (logged (Arrive n f) l) (largestAfter (Arrive n f) (engineOf us)) as′ (joined σ n f cs us ws)
   arrive-new us as′ n f i e =
-      got-cast cs₀ l (l ++ record { number = n; first = f; more = []; decision = Open } ∷ []) (logged (Arrive n f) l) n (elim (ltb top n) [ true ↦ n | false ↦ top ]) as′ (joined n f cs us ws)
+      got-cast cs₀ l (l ++ record { number = n; first = f; more = []; decision = Open } ∷ []) (logged (Arrive n f) l) n (elim (ltb top n) [ true ↦ n | false ↦ top ]) as′ (joined σ n f cs us ws)
       (sym (ap {B = Log} (λ (b : Bool). elim b [ true ↦ at n (extended f) l | false ↦ l ++ record { number = n; first = f; more = []; decision = Open } ∷ [] ]) (known-new 0 top n l k rises)))
       (sym (ap {B = ℕ} (λ (b : Bool). elim b [ true ↦ n | false ↦ top ]) e))
-      (new-inv cs₀ top l rises cs us ws as′ (record { number = n; fragment = f }) i k)
+      (new-inv σ cs₀ top l rises cs us ws as′ (record { number = n; fragment = f }) i k)
     where
       k : top < n
       k = ltb-true top n e
 
   arrive-again : (u : Uncommitted) (us : List Uncommitted) (as′ : List Answer) (f : Fragment) (i : Inv cs₀ l cs (u ∷ us) ws as′) → finished (u .state) ≡ false
-      → Got cs₀ l (logged (Arrive (u .number) f) l) (largestAfter (Arrive (u .number) f) (engineOf (u ∷ us))) as′ (continued f cs u us ws)
+      → Got cs₀ l (logged (Arrive (u .number) f) l) (largestAfter (Arrive (u .number) f) (engineOf (u ∷ us))) as′ (continued σ f cs u us ws)
   arrive-again u us as′ f i nf =
-      got-cast cs₀ l (at (u .number) (extended f) l) (logged (Arrive (u .number) f) l) top (elim (ltb top (u .number)) [ true ↦ u .number | false ↦ top ]) as′ (continued f cs u us ws)
+      got-cast cs₀ l (at (u .number) (extended f) l) (logged (Arrive (u .number) f) l) top (elim (ltb top (u .number)) [ true ↦ u .number | false ↦ top ]) as′ (continued σ f cs u us ws)
       (sym (ap {B = Log} (λ (b : Bool). elim b [ true ↦ at (u .number) (extended f) l | false ↦ l ++ record { number = u .number; first = f; more = []; decision = Open } ∷ [] ]) kn))
       (sym (ap {B = ℕ} (λ (b : Bool). elim b [ true ↦ u .number | false ↦ top ]) (le-ltb top (u .number) (top-front cs₀ top l rises cs ws as′ u us i))))
-      (again-inv cs₀ top l rises cs ws as′ u us i f nf)
+      (again-inv σ cs₀ top l rises cs ws as′ u us i f nf)
     where
       kn : known (u .number) l ≡ true
       kn = ap (known (u .number)) (i .split) ∙ known-at top (txOf (i .more) u) (lives [] us ++ map asTx ws) 0 (i .past) (rises-front cs₀ top l rises cs ws as′ u us i)
 
   accept-arrive : (us : List Uncommitted) (as′ : List Answer) (c : Call) → eqb (c .event .kind) 1 ≡ true → Inv cs₀ l cs us ws as′ → Passed (engineOf us) c
       → Got cs₀ l (logged (Arrive (c .event .number) (c .event .fragment)) l) (largestAfter (Arrive (c .event .number) (c .event .fragment)) (engineOf us)) as′
-      (arrived (c .event .number) (c .event .fragment) cs us ws)
+      (arrived σ (c .event .number) (c .event .fragment) cs us ws)
   accept-arrive [] as′ c a i p =
       arrive-new [] as′ (c .event .number) (c .event .fragment) i (front-or-new (live (c .event .number) (engineOf [])) (new (c .event .number) (engineOf [])) false (p .six) (p .seven) refl)
   accept-arrive (u ∷ us) as′ c a i p = go (eqb (u .number) n) refl
@@ -126,9 +127,9 @@ module _ (cs₀ : Cells) (ct top : ℕ) (ws : List Waiting) (cs : Cells) (l : Lo
       f = c .event .fragment
 
       go : (b : Bool) → eqb (u .number) n ≡ b → Got cs₀ l (logged (Arrive n f) l) (largestAfter (Arrive n f) (engineOf (u ∷ us))) as′
-          (elim b [ false ↦ joined n f cs (u ∷ us) ws | true ↦ continued f cs u us ws ])
+          (elim b [ false ↦ joined σ n f cs (u ∷ us) ws | true ↦ continued σ f cs u us ws ])
       go false e = arrive-new (u ∷ us) as′ n f i (front-or-new (live n (engineOf (u ∷ us))) (new n (engineOf (u ∷ us))) (eqb (u .number) n) (p .six) (p .seven) e)
-      go true e = subst (λ (m : ℕ). Got cs₀ l (logged (Arrive m f) l) (largestAfter (Arrive m f) (engineOf (u ∷ us))) as′ (continued f cs u us ws)) (eqb-true (u .number) n e)
+      go true e = subst (λ (m : ℕ). Got cs₀ l (logged (Arrive m f) l) (largestAfter (Arrive m f) (engineOf (u ∷ us))) as′ (continued σ f cs u us ws)) (eqb-true (u .number) n e)
           (arrive-again u us as′ f i (and-if (eqb (u .number) n) (finished (u .state)) e (and-if (eqb (c .event .kind) 1) _ a (p .eight))))
 
   -- a decision is for the front
@@ -137,24 +138,24 @@ module _ (cs₀ : Cells) (ct top : ℕ) (ws : List Waiting) (cs : Cells) (l : Lo
       front-if-known (live (c .event .number) (engineOf us)) (new (c .event .number) (engineOf us)) (isFront (c .event .number) (engineOf us)) (p .six) (p .seven) (and-unless (eqb (c .event .kind) 1) _ a (p .twelve))
 
   accept-commit : (us : List Uncommitted) (as′ : List Answer) (c : Call) → eqb (c .event .kind) 1 ≡ false → Inv cs₀ l cs us ws as′ → Passed (engineOf us) c
-      → Got cs₀ l (logged (Commit (c .event .number)) l) top as′ (taken (Commit (c .event .number)) (engineOf us) cs)
+      → Got cs₀ l (logged (Commit (c .event .number)) l) top as′ (taken σ (Commit (c .event .number)) (engineOf us) cs)
   accept-commit [] as′ c a i p = absurd (true≢false (sym (decides-front [] c a p)))
   accept-commit (u ∷ us) as′ c a i p =
-      subst (λ (m : ℕ). Got cs₀ l (logged (Commit m) l) top as′ (taken (Commit m) (engineOf (u ∷ us)) cs)) (eqb-true (u .number) (c .event .number) (decides-front (u ∷ us) c a p))
-      (commit-inv cs₀ top l rises cs ws as′ u us i)
+      subst (λ (m : ℕ). Got cs₀ l (logged (Commit m) l) top as′ (taken σ (Commit m) (engineOf (u ∷ us)) cs)) (eqb-true (u .number) (c .event .number) (decides-front (u ∷ us) c a p))
+      (commit-inv cs₀ top l rises cs ws as′ u us i σ)
 
   accept-abort : (us : List Uncommitted) (as′ : List Answer) (c : Call) → eqb (c .event .kind) 1 ≡ false → Inv cs₀ l cs us ws as′ → Passed (engineOf us) c
-      → Got cs₀ l (logged (Abort (c .event .number)) l) top [] (taken (Abort (c .event .number)) (engineOf us) cs)
+      → Got cs₀ l (logged (Abort (c .event .number)) l) top [] (taken σ (Abort (c .event .number)) (engineOf us) cs)
   accept-abort [] as′ c a i p = absurd (true≢false (sym (decides-front [] c a p)))
   accept-abort (u ∷ us) as′ c a i p =
-      subst (λ (m : ℕ). Got cs₀ l (logged (Abort m) l) top [] (taken (Abort m) (engineOf (u ∷ us)) cs)) (eqb-true (u .number) (c .event .number) (decides-front (u ∷ us) c a p))
-      (abort-inv cs₀ top l rises cs ws as′ u us i)
+      subst (λ (m : ℕ). Got cs₀ l (logged (Abort m) l) top [] (taken σ (Abort m) (engineOf (u ∷ us)) cs)) (eqb-true (u .number) (c .event .number) (decides-front (u ∷ us) c a p))
+      (abort-inv cs₀ top l rises cs ws as′ u us i σ)
 
 -- One call. After an abort no answer is followed any longer.
 
-accept : (cs₀ : Cells) (e : Engine) (cs : Cells) (l : Log) (as′ : List Answer) (c : Call) → Inv cs₀ l cs (e .uncommitted) (e .waiting) as′ → InOrder 0 (e .largest) l → Passed e c
-    → ((n : ℕ) → request (c .event) ≡ Abort n → as′ ≡ []) → Got cs₀ l (logged (request (c .event)) l) (largestAfter (request (c .event)) e) as′ (taken (request (c .event)) e cs)
-accept cs₀ e cs l as′ c i h p z = go (eqb (c .event .kind) 1) refl z
+accept : (σ : Scheme) (cs₀ : Cells) (e : Engine) (cs : Cells) (l : Log) (as′ : List Answer) (c : Call) → Inv cs₀ l cs (e .uncommitted) (e .waiting) as′ → InOrder 0 (e .largest) l → Passed e c
+    → ((n : ℕ) → request (c .event) ≡ Abort n → as′ ≡ []) → Got cs₀ l (logged (request (c .event)) l) (largestAfter (request (c .event)) e) as′ (taken σ (request (c .event)) e cs)
+accept σ cs₀ e cs l as′ c i h p z = go (eqb (c .event .kind) 1) refl z
   where
     n : ℕ
     n = c .event .number
@@ -162,17 +163,17 @@ accept cs₀ e cs l as′ c i h p z = go (eqb (c .event .kind) 1) refl z
     either : Bool → Request
     either b = elim b [ true ↦ Commit n | false ↦ Abort n ]
 
-    decide : eqb (c .event .kind) 1 ≡ false → (b : Bool) → ((m : ℕ) → either b ≡ Abort m → as′ ≡ []) → Got cs₀ l (logged (either b) l) (largestAfter (either b) e) as′ (taken (either b) e cs)
-    decide a true y = accept-commit cs₀ (e .count) (e .largest) (e .waiting) cs l h (e .uncommitted) as′ c a i p
+    decide : eqb (c .event .kind) 1 ≡ false → (b : Bool) → ((m : ℕ) → either b ≡ Abort m → as′ ≡ []) → Got cs₀ l (logged (either b) l) (largestAfter (either b) e) as′ (taken σ (either b) e cs)
+    decide a true y = accept-commit σ cs₀ (e .count) (e .largest) (e .waiting) cs l h (e .uncommitted) as′ c a i p
     decide a false y =
-        subst (λ (x : List Answer). Got cs₀ l (logged (Abort n) l) (e .largest) x (taken (Abort n) e cs)) (sym (y n refl))
-        (accept-abort cs₀ (e .count) (e .largest) (e .waiting) cs l h (e .uncommitted) as′ c a i p)
+        subst (λ (x : List Answer). Got cs₀ l (logged (Abort n) l) (e .largest) x (taken σ (Abort n) e cs)) (sym (y n refl))
+        (accept-abort σ cs₀ (e .count) (e .largest) (e .waiting) cs l h (e .uncommitted) as′ c a i p)
 
     asks : Bool → Request
     asks b = elim b [ true ↦ Arrive n (c .event .fragment) | false ↦ either (eqb (c .event .kind) 2) ]
 
-    go : (b : Bool) → eqb (c .event .kind) 1 ≡ b → ((m : ℕ) → asks b ≡ Abort m → as′ ≡ []) → Got cs₀ l (logged (asks b) l) (largestAfter (asks b) e) as′ (taken (asks b) e cs)
-    go true a y = accept-arrive cs₀ (e .count) (e .largest) (e .waiting) cs l h (e .uncommitted) as′ c a i p
+    go : (b : Bool) → eqb (c .event .kind) 1 ≡ b → ((m : ℕ) → asks b ≡ Abort m → as′ ≡ []) → Got cs₀ l (logged (asks b) l) (largestAfter (asks b) e) as′ (taken σ (asks b) e cs)
+    go true a y = accept-arrive σ cs₀ (e .count) (e .largest) (e .waiting) cs l h (e .uncommitted) as′ c a i p
     go false a y = decide a (eqb (c .event .kind) 2) y
 
 pub record Next (cs₀ : Cells) (r : Run) (c : Call) (as′ : List Answer) : Type 0 where
@@ -198,7 +199,7 @@ whole-onward cs₀ r c as′ w d z =
         → (respond k (r .engine) c .number ≡ 0 → (n : ℕ) → request (c .event) ≡ Abort n → as′ ≡ [])
         → Whole cs₀ (there k) (as′ ++ respond k (r .engine) c .answers) × All (Plain cs₀ (there k .log)) (respond k (r .engine) c .answers) × Grows (r .log) (there k .log)
     go zero e d′ z′ =
-        let g = accept cs₀ (r .engine) (c .lent) (r .log) as′ c
+        let g = accept (c .scheme) cs₀ (r .engine) (c .lent) (r .log) as′ c
         (subst (λ (x : Cells). Inv cs₀ (r .log) x (r .engine .uncommitted) (r .engine .waiting) as′) (sym (d′ refl)) (w .inv)) (w .rises) (passed (r .engine) c e) (z′ refl) in
         (record { inv = g .after .inv; rises = g .rises; idle = g .after .idle }, g .after .plain, g .grows)
     go (suc k) e d′ z′ = (rw append-nil w, tt, grows-same (r .log))
@@ -366,7 +367,7 @@ dependent-right cs₀ calls k c j between b d a m z q ev ok =
     subst (λ (x : Log). Gives cs₀ (a .number) x (a .outcome)) (sym (ap (λ (k : ℕ). noticed k (request (d .event)) (R .log)) ok ∙ ap (λ (v : Request). noticed 0 v (R .log)) ev))
     (depend-commit cs₀ (R .engine .count) (R .engine .largest) (R .engine .uncommitted) (R .engine .waiting) (R .cells) (R .log) (step (r .engine) c .answers ++ f .0) (f .1 .inv) (f .1 .rises) a z
     (all-mem (Followed 0 (f .1 .inv .past) (f .1 .inv .base) (f .1 .inv .more) (R .engine .uncommitted)) (step (r .engine) c .answers ++ f .0) (f .1 .inv .followed) a (Memᴰ·append-left (f .0) m))
-    (subst (λ (n : ℕ). isFront n (R .engine) ≡ true) (x .1) (decides-front cs₀ (R .engine .count) (R .engine .largest) (R .engine .waiting) (R .cells) (R .log) (f .1 .rises) (R .engine .uncommitted) d (x .0)
+    (subst (λ (n : ℕ). isFront n (R .engine) ≡ true) (x .1) (decides-front (d .scheme) cs₀ (R .engine .count) (R .engine .largest) (R .engine .waiting) (R .cells) (R .log) (f .1 .rises) (R .engine .uncommitted) d (x .0)
     (passed (R .engine) d (took (R .engine) d ok)))))
   where
     r : Run

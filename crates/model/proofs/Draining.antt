@@ -14,13 +14,11 @@ use Rattle.model.specs.Steps.{Ran, run, begun, oneCoordinator, nearest, 
 use Rattle.model.specs.Serial.{Tx, Decision, Open, Committed, Aborted, attempt, effect, serial}
 use Rattle.model.specs.Demand.{Log, Standing, Settles, Gone, Undecided, standing, settledOf, Gives}
 use Rattle.model.specs.declared.Fragment.{Fragment}
+use Rattle.model.specs.declared.Scheme.{Scheme}
 use Rattle.model.proofs.Undoing.{Agree}
+use Rattle.model.proofs.Taking.{may-finished}
 use Rattle.model.proofs.Logs.{InOrder, rises-weaken, rises-at, gives-at, Past, Closed, closed-snoc, past-settles}
 use Rattle.model.proofs.Chain.{nearestTx, nearest-lives, asTx, txOf, lives, Entry, Chain, ButLast, FrontMulti, Pend, InPast, Followed, All, all-map, all-append, Inv, chain-cells, chain-snoc, lives-snoc, ready-snoc, ready-tail, begun-agrees, begun-entry, sent-is-not-held, held-inj, followed-idle, followed-snoc, in-past, none-pends}
-
-pub and-right : (a b : Bool) → (a && b) ≡ true → b ≡ true
-and-right true b h = h
-and-right false b h = absurd (true≢false (sym h))
 
 pub past-if : (s : Standing) → s ≡ Settles → Past s
 past-if s e = subst Past (sym e) tt
@@ -149,11 +147,11 @@ module _ (cs₀ : Cells) (top : ℕ) (l : Log) (rises : InOrder 0 top l) where
         (rises-drop 0 top (i .past) (lives (i .more) (u ∷ us) ++ map asTx (w ∷ ws)) (subst (λ (x : Log). InOrder 0 top x) (i .split) rises)) z)
 
   -- take the first waiting one and run it
-  pub placed-inv : (us : List Uncommitted) (w : Waiting) (ws : List Waiting) (cs : Cells) (as′ : List Answer) → mayTake us ≡ true → Inv cs₀ l cs us (w ∷ ws) as′
+  pub placed-inv : (σ : Scheme) (us : List Uncommitted) (w : Waiting) (ws : List Waiting) (cs : Cells) (as′ : List Answer) → mayTake σ us ≡ true → Inv cs₀ l cs us (w ∷ ws) as′
       → Inv cs₀ l (run (w .fragment) cs [] .cells) (placed us w (run (w .fragment) cs []) .uncommitted) ws (as′ ++ placed us w (run (w .fragment) cs []) .answers)
       × All (Plain cs₀ l) (placed us w (run (w .fragment) cs []) .answers)
   unfolding placed
-  placed-inv [] w ws cs as′ m i = go (multi (w .fragment)) refl
+  placed-inv σ [] w ws cs as′ m i = go (multi (w .fragment)) refl
     where
       place : Bool → Place
       place b = elim b [
@@ -164,10 +162,10 @@ module _ (cs₀ : Cells) (top : ℕ) (l : Log) (rises : InOrder 0 top l) where
       go : (b : Bool) → multi (w .fragment) ≡ b → Inv cs₀ l (run (w .fragment) cs [] .cells) (place b .uncommitted) ws (as′ ++ place b .answers) × All (Plain cs₀ l) (place b .answers)
       go false e = (settles-at-once w ws cs as′ i e, (plain-first w ws cs as′ i, tt))
       go true e = (becomes-front w ws cs as′ i e, (plain-first w ws cs as′ i, tt))
-  placed-inv (u ∷ us) w ws cs as′ m i = go (multi (w .fragment) && oneCoordinator (w .fragment .coordinator) (u ∷ us))
+  placed-inv σ (u ∷ us) w ws cs as′ m i = go (multi (w .fragment) && oneCoordinator (w .fragment .coordinator) (u ∷ us))
     where
       f : lastFinished (u ∷ us) ≡ true
-      f = and-right (ltb (length (u ∷ us)) depth) (lastFinished (u ∷ us)) m
+      f = may-finished σ u us m
 
       place : Bool → Place
       place b = elim b [
@@ -186,22 +184,22 @@ pub record After (cs₀ : Cells) (l : Log) (as′ : List Answer) (q : Queues) : 
   pub idle : q .uncommitted ≡ [] → q .waiting ≡ []
   pub plain : All (Plain cs₀ l) (q .answers)
 
-pub drain-inv : (cs₀ : Cells) (top : ℕ) (l : Log) → InOrder 0 top l → (cs : Cells) (us : List Uncommitted) (ws : List Waiting) (as′ : List Answer) → Inv cs₀ l cs us ws as′ → After cs₀ l as′ (drain cs us ws)
+pub drain-inv : (σ : Scheme) (cs₀ : Cells) (top : ℕ) (l : Log) → InOrder 0 top l → (cs : Cells) (us : List Uncommitted) (ws : List Waiting) (as′ : List Answer) → Inv cs₀ l cs us ws as′ → After cs₀ l as′ (drain σ cs us ws)
 unfolding drain
-drain-inv cs₀ top l rises cs us [] as′ i = record { inv = rw append-nil i; idle = λ _. refl; plain = tt }
-drain-inv cs₀ top l rises cs us (w ∷ ws) as′ i = go (mayTake us) refl (λ cs′ us′ as″ i′. drain-inv cs₀ top l rises cs′ us′ ws as″ i′)
+drain-inv σ cs₀ top l rises cs us [] as′ i = record { inv = rw append-nil i; idle = λ _. refl; plain = tt }
+drain-inv σ cs₀ top l rises cs us (w ∷ ws) as′ i = go (mayTake σ us) refl (λ cs′ us′ as″ i′. drain-inv σ cs₀ top l rises cs′ us′ ws as″ i′)
   where
     q : Queues
-    q = drain (run (w .fragment) cs [] .cells) (placed us w (run (w .fragment) cs []) .uncommitted) ws
+    q = drain σ (run (w .fragment) cs [] .cells) (placed us w (run (w .fragment) cs []) .uncommitted) ws
 
-    go : (b : Bool) → mayTake us ≡ b → ((cs′ : Cells) (us′ : List Uncommitted) (as″ : List Answer) → Inv cs₀ l cs′ us′ ws as″ → After cs₀ l as″ (drain cs′ us′ ws))
+    go : (b : Bool) → mayTake σ us ≡ b → ((cs′ : Cells) (us′ : List Uncommitted) (as″ : List Answer) → Inv cs₀ l cs′ us′ ws as″ → After cs₀ l as″ (drain σ cs′ us′ ws))
         → After cs₀ l as′ (elim b [
           | false ↦ record { cells = cs; uncommitted = us; waiting = w ∷ ws; answers = [] }
           | true ↦ sending (placed us w (run (w .fragment) cs []) .answers) q
         ])
-    go false e rec = record { inv = rw append-nil i; idle = λ h. absurd (true≢false (sym (ap mayTake h) ∙ e)); plain = tt }
+    go false e rec = record { inv = rw append-nil i; idle = λ h. absurd (true≢false (sym (ap (mayTake σ) h) ∙ e)); plain = tt }
     go true e rec =
-        let p = placed-inv cs₀ top l rises us w ws cs as′ e i in
+        let p = placed-inv cs₀ top l rises σ us w ws cs as′ e i in
         let a = rec (run (w .fragment) cs [] .cells) (placed us w (run (w .fragment) cs []) .uncommitted) (as′ ++ placed us w (run (w .fragment) cs []) .answers) (p .0) in
         record {
           inv = subst (λ (x : List Answer). Inv cs₀ l (q .cells) (q .uncommitted) (q .waiting) x) (append-assoc as′ (placed us w (run (w .fragment) cs []) .answers) (q .answers)) (a .inv);

@@ -15,10 +15,12 @@ use Rattle.model.specs.Refusals.{every, inside, formed, storable, behind
 use Rattle.model.specs.Demand.{Rises}
 use Rattle.model.specs.declared.Op.{Op}
 use Rattle.model.specs.declared.Fragment.{Fragment}
+use Rattle.model.specs.declared.Scheme.{Scheme}
 use Rattle.model.specs.declared.Undo.{Undo}
 use Rattle.model.specs.declared.Did.the-variants.{Number, Fails}
 use Rattle.model.proofs.Chain.{All, all-append}
 use Rattle.model.proofs.Tests.{both, and-left, and-right, or-left, or-right, or-true, every-append}
+use Rattle.model.proofs.Taking.{may-less, may-finished}
 use Rattle.model.proofs.Sound.{cellInside, SoundOne, Stored, badFront, Sound}
 
 -- What a run leaves
@@ -156,10 +158,10 @@ ready-same u v (x ∷ us) e r = subst (λ (s : State). (finished s && ready (x �
 -- Drain
 
 -- take the first waiting one and run it
-pub placed-sound : (ct top : ℕ) (us : List Uncommitted) (w : Waiting) (ws : List Waiting) (cs : Cells) → mayTake us ≡ true → Sound ct top us (w ∷ ws)
+pub placed-sound : (σ : Scheme) (ct top : ℕ) (us : List Uncommitted) (w : Waiting) (ws : List Waiting) (cs : Cells) → mayTake σ us ≡ true → Sound ct top us (w ∷ ws)
     → Sound ct top (placed us w (run (w .fragment) cs []) .uncommitted) ws × (length (placed us w (run (w .fragment) cs []) .answers) ≤ 1)
 unfolding placed
-placed-sound ct top [] w ws cs m s = go (multi (w .fragment)) refl
+placed-sound σ ct top [] w ws cs m s = go (multi (w .fragment)) refl
   where
     r : Ran
     r = run (w .fragment) cs []
@@ -199,10 +201,10 @@ placed-sound ct top [] w ws cs m s = go (multi (w .fragment)) refl
       },
       omega arith,
     )
-placed-sound ct top (u ∷ us) w ws cs m s = go (multi (w .fragment) && oneCoordinator (w .fragment .coordinator) (u ∷ us)) refl
+placed-sound σ ct top (u ∷ us) w ws cs m s = go (multi (w .fragment) && oneCoordinator (w .fragment .coordinator) (u ∷ us)) refl
   where
     less : length (u ∷ us) < depth
-    less = ltb-true (length (u ∷ us)) depth (and-left (ltb (length (u ∷ us)) depth) (lastFinished (u ∷ us)) m)
+    less = ltb-true (length (u ∷ us)) depth (may-less σ u us m)
 
     new : Reply → Uncommitted
     new a = begun w (run (w .fragment) cs []) a
@@ -217,7 +219,7 @@ placed-sound ct top (u ∷ us) w ws cs m s = go (multi (w .fragment) && oneCoord
       waiting = s .waiting .1;
       ones = all-append (λ (v : Uncommitted). v .ran ≤ 1) us (begun w (run (w .fragment) cs []) a ∷ []) (s .ones) (omega arith, tt);
       front = s .front;
-      ready = ready-snoc u us (begun w (run (w .fragment) cs []) a) (s .ready) (and-right (ltb (length (u ∷ us)) depth) (lastFinished (u ∷ us)) m);
+      ready = ready-snoc u us (begun w (run (w .fragment) cs []) a) (s .ready) (may-finished σ u us m);
     }
 
     place : Bool → Place
@@ -236,27 +238,27 @@ placed-sound ct top (u ∷ us) w ws cs m s = go (multi (w .fragment) && oneCoord
         )
     go true e = (join Sent refl refl (ap (λ (b : Bool). b || false) (and-left (multi (w .fragment)) (oneCoordinator (w .fragment .coordinator) (u ∷ us)) e)), omega arith)
 
-pub drain-sound : (ct top : ℕ) (cs : Cells) (us : List Uncommitted) (ws : List Waiting) → Sound ct top us ws
-    → Sound ct top (drain cs us ws .uncommitted) (drain cs us ws .waiting) × (length (drain cs us ws .answers) ≤ length ws)
+pub drain-sound : (σ : Scheme) (ct top : ℕ) (cs : Cells) (us : List Uncommitted) (ws : List Waiting) → Sound ct top us ws
+    → Sound ct top (drain σ cs us ws .uncommitted) (drain σ cs us ws .waiting) × (length (drain σ cs us ws .answers) ≤ length ws)
 unfolding drain
-drain-sound ct top cs us [] s = (s, omega arith)
-drain-sound ct top cs us (w ∷ ws) s = go (mayTake us) refl (λ cs′ us′ s′. drain-sound ct top cs′ us′ ws s′)
+drain-sound σ ct top cs us [] s = (s, omega arith)
+drain-sound σ ct top cs us (w ∷ ws) s = go (mayTake σ us) refl (λ cs′ us′ s′. drain-sound σ ct top cs′ us′ ws s′)
   where
     p : Place
     p = placed us w (run (w .fragment) cs [])
 
     q : Queues
-    q = drain (run (w .fragment) cs [] .cells) (placed us w (run (w .fragment) cs []) .uncommitted) ws
+    q = drain σ (run (w .fragment) cs [] .cells) (placed us w (run (w .fragment) cs []) .uncommitted) ws
 
     all : Bool → Queues
     all b = elim b [ false ↦ record { cells = cs; uncommitted = us; waiting = w ∷ ws; answers = [] } | true ↦ sending (placed us w (run (w .fragment) cs []) .answers) q ]
 
-    go : (b : Bool) → mayTake us ≡ b
-        → ((cs′ : Cells) (us′ : List Uncommitted) → Sound ct top us′ ws → Sound ct top (drain cs′ us′ ws .uncommitted) (drain cs′ us′ ws .waiting) × (length (drain cs′ us′ ws .answers) ≤ length ws))
+    go : (b : Bool) → mayTake σ us ≡ b
+        → ((cs′ : Cells) (us′ : List Uncommitted) → Sound ct top us′ ws → Sound ct top (drain σ cs′ us′ ws .uncommitted) (drain σ cs′ us′ ws .waiting) × (length (drain σ cs′ us′ ws .answers) ≤ length ws))
         → Sound ct top (all b .uncommitted) (all b .waiting) × (length (all b .answers) ≤ suc (length ws))
     go false e rec = (s, omega arith)
     go true e rec =
-        let h = placed-sound ct top us w ws cs e s in
+        let h = placed-sound σ ct top us w ws cs e s in
         let x = rec (run (w .fragment) cs [] .cells) (placed us w (run (w .fragment) cs []) .uncommitted) (h .0) in
         (x .0, omega (arith, h .1, x .1, length-append (placed us w (run (w .fragment) cs []) .answers) (q .answers)))
 
@@ -401,26 +403,26 @@ module _ (ct top : ℕ) (ws : List Waiting) (cs : Cells) where
   alone u [] s nf = refl
   alone u (v ∷ us) s nf = absurd (true≢false (sym (and-left (finished (u .state)) (ready (v ∷ us)) (s .ready)) ∙ nf))
 
-  pub joined-stays : (us : List Uncommitted) (n : ℕ) (f : Fragment) → Sound ct top us ws → top < n → storable ct f ≡ true → length us + length ws < mostLive → Stays ct n (joined n f cs us ws)
-  joined-stays us n f s k st l =
+  pub joined-stays : (σ : Scheme) (us : List Uncommitted) (n : ℕ) (f : Fragment) → Sound ct top us ws → top < n → storable ct f ≡ true → length us + length ws < mostLive → Stays ct n (joined σ n f cs us ws)
+  joined-stays σ us n f s k st l =
       let w : Waiting = record { number = n; fragment = f } in
-      let x = drain-sound ct n cs us (ws ++ (w ∷ [])) (joined-sound us n f s k st l) in
+      let x = drain-sound σ ct n cs us (ws ++ (w ∷ [])) (joined-sound us n f s k st l) in
       record { sound = x .0; most = omega (arith, x .1, length-append ws (w ∷ [])) }
 
-  pub continued-stays : (u : Uncommitted) (us : List Uncommitted) (f : Fragment) → Sound ct top (u ∷ us) ws → storable ct f ≡ true → finished (u .state) ≡ false → u .ran < mostFragments
-      → Stays ct top (continued f cs u us ws)
-  continued-stays u (v ∷ us) f s st nf k = absurd (true≢false (sym (and-left (finished (u .state)) (ready (v ∷ us)) (s .ready)) ∙ nf))
-  continued-stays u [] f s st nf k =
-      let x = drain-sound ct top (run f cs (u .undo) .cells) (again u f (run f cs (u .undo)) ∷ []) ws (continued-sound u f s st k) in
+  pub continued-stays : (σ : Scheme) (u : Uncommitted) (us : List Uncommitted) (f : Fragment) → Sound ct top (u ∷ us) ws → storable ct f ≡ true → finished (u .state) ≡ false → u .ran < mostFragments
+      → Stays ct top (continued σ f cs u us ws)
+  continued-stays σ u (v ∷ us) f s st nf k = absurd (true≢false (sym (and-left (finished (u .state)) (ready (v ∷ us)) (s .ready)) ∙ nf))
+  continued-stays σ u [] f s st nf k =
+      let x = drain-sound σ ct top (run f cs (u .undo) .cells) (again u f (run f cs (u .undo)) ∷ []) ws (continued-sound u f s st k) in
       record { sound = x .0; most = omega (arith, x .1, s .sixtyFour) }
 
-  pub committed-stays : (u : Uncommitted) (us : List Uncommitted) → Sound ct top (u ∷ us) ws → Stays ct top (committed cs (u ∷ us) ws)
-  committed-stays u us s =
+  pub committed-stays : (σ : Scheme) (u : Uncommitted) (us : List Uncommitted) → Sound ct top (u ∷ us) ws → Stays ct top (committed σ cs (u ∷ us) ws)
+  committed-stays σ u us s =
       let y = settled-sound ct top us ws (front-leaves ct top u us ws s) in
-      let x = drain-sound ct top cs (settled us .uncommitted) ws (y .0) in
-      record { sound = x .0; most = omega (arith, x .1, y .1, s .sixtyFour, length-append (settled us .answers) (drain cs (settled us .uncommitted) ws .answers)) }
+      let x = drain-sound σ ct top cs (settled us .uncommitted) ws (y .0) in
+      record { sound = x .0; most = omega (arith, x .1, y .1, s .sixtyFour, length-append (settled us .answers) (drain σ cs (settled us .uncommitted) ws .answers)) }
 
-  pub aborted-stays : (u : Uncommitted) (us : List Uncommitted) → Sound ct top (u ∷ us) ws → Stays ct top (aborted cs (u ∷ us) ws)
-  aborted-stays u us s =
-      let x = drain-sound ct top _ [] (map requeued us ++ ws) (aborted-sound u us s) in
+  pub aborted-stays : (σ : Scheme) (u : Uncommitted) (us : List Uncommitted) → Sound ct top (u ∷ us) ws → Stays ct top (aborted σ cs (u ∷ us) ws)
+  aborted-stays σ u us s =
+      let x = drain-sound σ ct top _ [] (map requeued us ++ ws) (aborted-sound u us s) in
       record { sound = x .0; most = omega (arith, x .1, s .sixtyFour, length-append (map requeued us) ws, length-map us requeued) }

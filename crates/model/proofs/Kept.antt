@@ -16,6 +16,7 @@ use Rattle.model.specs.Refusals.{Request, Arrive, Commit, Abort, request
 use Rattle.model.specs.Demand.{Run, onward, runs, fresh}
 use Rattle.model.specs.declared.Event.{Event}
 use Rattle.model.specs.declared.Fragment.{Fragment}
+use Rattle.model.specs.declared.Scheme.{Scheme}
 use Rattle.model.proofs.Chain.{All}
 use Rattle.model.proofs.Passing.{Passed, passed, front-or-new, front-if-known, and-if, and-unless}
 use Rattle.model.proofs.Tests.{both, and-right, or-left}
@@ -47,12 +48,12 @@ arrives-storable e c a p =
         or false y n h = absurd (n h)
     go false y e n h = absurd (true≢false (sym e))
 
-module _ (ct top : ℕ) (ws : List Waiting) (cs : Cells) where
+module _ (σ : Scheme) (ct top : ℕ) (ws : List Waiting) (cs : Cells) where
   abbrev engineOf : List Uncommitted → Engine
   engineOf us = record { count = ct; largest = top; uncommitted = us; waiting = ws }
 
   arrive-stays : (us : List Uncommitted) (c : Call) → eqb (c .event .kind) 1 ≡ true → Sound ct top us ws → Passed (engineOf us) c
-      → Stays ct (largestAfter (Arrive (c .event .number) (c .event .fragment)) (engineOf us)) (arrived (c .event .number) (c .event .fragment) cs us ws)
+      → Stays ct (largestAfter (Arrive (c .event .number) (c .event .fragment)) (engineOf us)) (arrived σ (c .event .number) (c .event .fragment) cs us ws)
   arrive-stays us c a s p = go us s p
     where
       n : ℕ
@@ -61,26 +62,26 @@ module _ (ct top : ℕ) (ws : List Waiting) (cs : Cells) where
       f : Fragment
       f = c .event .fragment
 
-      joins : (vs : List Uncommitted) → Sound ct top vs ws → Passed (engineOf vs) c → ltb top n ≡ true → Stays ct (elim (ltb top n) [ true ↦ n | false ↦ top ]) (joined n f cs vs ws)
+      joins : (vs : List Uncommitted) → Sound ct top vs ws → Passed (engineOf vs) c → ltb top n ≡ true → Stays ct (elim (ltb top n) [ true ↦ n | false ↦ top ]) (joined σ n f cs vs ws)
       joins vs s q e =
-          subst (λ (t : ℕ). Stays ct t (joined n f cs vs ws)) (sym (ap {B = ℕ} (λ (b : Bool). elim b [ true ↦ n | false ↦ top ]) e))
-          (joined-stays ct top ws cs vs n f s (ltb-true top n e) (arrives-storable (engineOf vs) c a q)
+          subst (λ (t : ℕ). Stays ct t (joined σ n f cs vs ws)) (sym (ap {B = ℕ} (λ (b : Bool). elim b [ true ↦ n | false ↦ top ]) e))
+          (joined-stays ct top ws cs σ vs n f s (ltb-true top n e) (arrives-storable (engineOf vs) c a q)
           (leb-false mostLive (length vs + length ws) (and-if (eqb (c .event .kind) 1 && ltb top n) (leb mostLive (length vs + length ws)) (both (eqb (c .event .kind) 1) (ltb top n) a e) (q .ten))))
 
-      go : (vs : List Uncommitted) → Sound ct top vs ws → Passed (engineOf vs) c → Stays ct (elim (ltb top n) [ true ↦ n | false ↦ top ]) (arrived n f cs vs ws)
+      go : (vs : List Uncommitted) → Sound ct top vs ws → Passed (engineOf vs) c → Stays ct (elim (ltb top n) [ true ↦ n | false ↦ top ]) (arrived σ n f cs vs ws)
       go [] s p = joins [] s p (front-or-new (live n (engineOf [])) (ltb top n) false (p .six) (p .seven) refl)
       go (u ∷ vs) s p = or (eqb (u .number) n) refl
         where
           at : (q : Uncommitted → Bool) → eqb (u .number) n ≡ true → (eqb (c .event .kind) 1 && (eqb (u .number) n && q u)) ≡ false → q u ≡ false
           at q e h = and-if (eqb (u .number) n) (q u) e (and-if (eqb (c .event .kind) 1) (eqb (u .number) n && q u) a h)
 
-          or : (b : Bool) → eqb (u .number) n ≡ b → Stays ct (elim (ltb top n) [ true ↦ n | false ↦ top ]) (elim b [ false ↦ joined n f cs (u ∷ vs) ws | true ↦ continued f cs u vs ws ])
+          or : (b : Bool) → eqb (u .number) n ≡ b → Stays ct (elim (ltb top n) [ true ↦ n | false ↦ top ]) (elim b [ false ↦ joined σ n f cs (u ∷ vs) ws | true ↦ continued σ f cs u vs ws ])
           or false e = joins (u ∷ vs) s p (front-or-new (live n (engineOf (u ∷ vs))) (ltb top n) (eqb (u .number) n) (p .six) (p .seven) e)
           or true e =
               let same : u .number ≡ n = eqb-true (u .number) n e in
               let old : n ≤ top = subst (λ (m : ℕ). m ≤ top) same (rises-top (u .number) (numbers vs ws) (s .rises .1)) in
-              subst (λ (t : ℕ). Stays ct t (continued f cs u vs ws)) (sym (ap {B = ℕ} (λ (b : Bool). elim b [ true ↦ n | false ↦ top ]) (le-ltb top n old)))
-              (continued-stays ct top ws cs u vs f s (arrives-storable (engineOf (u ∷ vs)) c a p)
+              subst (λ (t : ℕ). Stays ct t (continued σ f cs u vs ws)) (sym (ap {B = ℕ} (λ (b : Bool). elim b [ true ↦ n | false ↦ top ]) (le-ltb top n old)))
+              (continued-stays ct top ws cs σ u vs f s (arrives-storable (engineOf (u ∷ vs)) c a p)
               (at (λ u. finished (u .state)) e (p .eight)) (leb-false mostFragments (u .ran) (at (λ u. leb mostFragments (u .ran)) e (p .eleven))))
             where
               rises-top : (m : ℕ) (l : List ℕ) → Rattle.model.specs.Demand.Rises m top l → m ≤ top
@@ -91,29 +92,29 @@ module _ (ct top : ℕ) (ws : List Waiting) (cs : Cells) where
   decides-front us c a p =
       front-if-known (live (c .event .number) (engineOf us)) (new (c .event .number) (engineOf us)) (isFront (c .event .number) (engineOf us)) (p .six) (p .seven) (and-unless (eqb (c .event .kind) 1) _ a (p .twelve))
 
-  commit-stays : (us : List Uncommitted) (c : Call) → eqb (c .event .kind) 1 ≡ false → Sound ct top us ws → Passed (engineOf us) c → Stays ct top (taken (Commit (c .event .number)) (engineOf us) cs)
+  commit-stays : (us : List Uncommitted) (c : Call) → eqb (c .event .kind) 1 ≡ false → Sound ct top us ws → Passed (engineOf us) c → Stays ct top (taken σ (Commit (c .event .number)) (engineOf us) cs)
   commit-stays [] c a s p = absurd (true≢false (sym (decides-front [] c a p)))
-  commit-stays (u ∷ us) c a s p = committed-stays ct top ws cs u us s
+  commit-stays (u ∷ us) c a s p = committed-stays ct top ws cs σ u us s
 
-  abort-stays : (us : List Uncommitted) (c : Call) → eqb (c .event .kind) 1 ≡ false → Sound ct top us ws → Passed (engineOf us) c → Stays ct top (taken (Abort (c .event .number)) (engineOf us) cs)
+  abort-stays : (us : List Uncommitted) (c : Call) → eqb (c .event .kind) 1 ≡ false → Sound ct top us ws → Passed (engineOf us) c → Stays ct top (taken σ (Abort (c .event .number)) (engineOf us) cs)
   abort-stays [] c a s p = absurd (true≢false (sym (decides-front [] c a p)))
-  abort-stays (u ∷ us) c a s p = aborted-stays ct top ws cs u us s
+  abort-stays (u ∷ us) c a s p = aborted-stays ct top ws cs σ u us s
 
-accepted-stays : (e : Engine) (c : Call) → SoundEngine e → Passed e c → Stays (e .count) (largestAfter (request (c .event)) e) (taken (request (c .event)) e (c .lent))
+accepted-stays : (e : Engine) (c : Call) → SoundEngine e → Passed e c → Stays (e .count) (largestAfter (request (c .event)) e) (taken (c .scheme) (request (c .event)) e (c .lent))
 accepted-stays e c s p = go (eqb (c .event .kind) 1) refl
   where
     either : Bool → Request
     either b = elim b [ true ↦ Commit (c .event .number) | false ↦ Abort (c .event .number) ]
 
-    decide : eqb (c .event .kind) 1 ≡ false → (b : Bool) → Stays (e .count) (largestAfter (either b) e) (taken (either b) e (c .lent))
-    decide a true = commit-stays (e .count) (e .largest) (e .waiting) (c .lent) (e .uncommitted) c a s p
-    decide a false = abort-stays (e .count) (e .largest) (e .waiting) (c .lent) (e .uncommitted) c a s p
+    decide : eqb (c .event .kind) 1 ≡ false → (b : Bool) → Stays (e .count) (largestAfter (either b) e) (taken (c .scheme) (either b) e (c .lent))
+    decide a true = commit-stays (c .scheme) (e .count) (e .largest) (e .waiting) (c .lent) (e .uncommitted) c a s p
+    decide a false = abort-stays (c .scheme) (e .count) (e .largest) (e .waiting) (c .lent) (e .uncommitted) c a s p
 
     asks : Bool → Request
     asks b = elim b [ true ↦ Arrive (c .event .number) (c .event .fragment) | false ↦ either (eqb (c .event .kind) 2) ]
 
-    go : (b : Bool) → eqb (c .event .kind) 1 ≡ b → Stays (e .count) (largestAfter (asks b) e) (taken (asks b) e (c .lent))
-    go true a = arrive-stays (e .count) (e .largest) (e .waiting) (c .lent) (e .uncommitted) c a s p
+    go : (b : Bool) → eqb (c .event .kind) 1 ≡ b → Stays (e .count) (largestAfter (asks b) e) (taken (c .scheme) (asks b) e (c .lent))
+    go true a = arrive-stays (c .scheme) (e .count) (e .largest) (e .waiting) (c .lent) (e .uncommitted) c a s p
     go false a = decide a (eqb (c .event .kind) 2)
 
 -- Kept by every call, from every sound record

@@ -2,6 +2,7 @@ pub mod Cases
 pub mod Undoing
 pub mod Logs
 pub mod Chain
+pub mod Taking
 pub mod Draining
 pub mod Settling
 pub mod Passing

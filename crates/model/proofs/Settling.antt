@@ -12,6 +12,7 @@ use Rattle.model.specs.Steps.{undone, Ran, run, again, requeued, Place, 
 use Rattle.model.specs.Serial.{Tx, Decision, Open, Committed, Aborted, attempt, effect, serial}
 use Rattle.model.specs.Demand.{Log, Standing, Settles, Gone, Undecided, standing, settledOf, Gives, at, extended, decided}
 use Rattle.model.specs.declared.Fragment.{Fragment}
+use Rattle.model.specs.declared.Scheme.{Scheme}
 use Rattle.model.proofs.Logs.{InOrder, rises-at, rises-put, rises-more, rises-below, gives-at, Past, Closed, closed-snoc, past-settles, past-gone, at-at, Grows, grows-more, grows-put}
 use Rattle.model.proofs.Chain.{asTx, txOf, lives, Entry, Chain, ButLast, FrontMulti, Pend, InPast, Followed, All, all-map, all-append, Inv, chain-undone, lives-requeued, ready-tail, again-entry, sent-is-not-held, followed-idle, in-past, pend-multi-leaves, pend-single-leaves, pend-front, pend-alone}
 use Rattle.model.proofs.Draining.{Plain, After, drain-inv, past-if}
@@ -170,14 +171,14 @@ followed cs₀ l cs us ws as′ new h i = record {
 }
 
 -- a call that sends some answers itself and then drains
-sends-drains : (cs₀ : Cells) (top : ℕ) (l : Log) → InOrder 0 top l → (cs : Cells) (us : List Uncommitted) (ws : List Waiting) (as′ new : List Answer) → All (Sure cs₀ l) new → Inv cs₀ l cs us ws as′
-    → After cs₀ l as′ (sending new (drain cs us ws))
-sends-drains cs₀ top l rises cs us ws as′ new h i =
-    let a = drain-inv cs₀ top l rises cs us ws (as′ ++ new) (followed cs₀ l cs us ws as′ new h i) in
+sends-drains : (σ : Scheme) (cs₀ : Cells) (top : ℕ) (l : Log) → InOrder 0 top l → (cs : Cells) (us : List Uncommitted) (ws : List Waiting) (as′ new : List Answer) → All (Sure cs₀ l) new → Inv cs₀ l cs us ws as′
+    → After cs₀ l as′ (sending new (drain σ cs us ws))
+sends-drains σ cs₀ top l rises cs us ws as′ new h i =
+    let a = drain-inv σ cs₀ top l rises cs us ws (as′ ++ new) (followed cs₀ l cs us ws as′ new h i) in
     record {
-      inv = subst (λ (x : List Answer). Inv cs₀ l (drain cs us ws .cells) (drain cs us ws .uncommitted) (drain cs us ws .waiting) x) (append-assoc as′ new (drain cs us ws .answers)) (a .inv);
+      inv = subst (λ (x : List Answer). Inv cs₀ l (drain σ cs us ws .cells) (drain σ cs us ws .uncommitted) (drain σ cs us ws .waiting) x) (append-assoc as′ new (drain σ cs us ws .answers)) (a .inv);
       idle = a .idle;
-      plain = all-append (Plain cs₀ l) new (drain cs us ws .answers) (plain-sure cs₀ l new h) (a .plain);
+      plain = all-append (Plain cs₀ l) new (drain σ cs us ws .answers) (plain-sure cs₀ l new h) (a .plain);
     }
 
 module _ (cs₀ : Cells) (top : ℕ) (l : Log) (rises : InOrder 0 top l) (cs : Cells) (ws : List Waiting) (as′ : List Answer) where
@@ -235,15 +236,15 @@ module _ (cs₀ : Cells) (top : ℕ) (l : Log) (rises : InOrder 0 top l) (cs : C
             here (inl y) = absurd (z y)
             here (inr y) = inl y
 
-    pub commit-inv : Got cs₀ l (at (u .number) (decided Committed) l) top as′ (committed cs (u ∷ us) ws)
-    commit-inv =
+    pub commit-inv : (σ : Scheme) → Got cs₀ l (at (u .number) (decided Committed) l) top as′ (committed σ cs (u ∷ us) ws)
+    commit-inv σ =
         let h = rises-log-front (decided Committed) refl in
         let x = settled-inv cs₀ top (at (u .number) (decided Committed) l) h cs (u .number) ws as′ us front-settles in
-        record { after = sends-drains cs₀ top (at (u .number) (decided Committed) l) h cs (settled us .uncommitted) ws as′ (settled us .answers) (x .1) (x .0); rises = h; grows = grows-front (decided Committed) }
+        record { after = sends-drains σ cs₀ top (at (u .number) (decided Committed) l) h cs (settled us .uncommitted) ws as′ (settled us .answers) (x .1) (x .0); rises = h; grows = grows-front (decided Committed) }
 
     -- "Abort of the front": nothing that depended is followed any longer
-    pub abort-inv : Got cs₀ l (at (u .number) (decided Aborted) l) top [] (aborted cs (u ∷ us) ws)
-    abort-inv = record { after = drain-inv cs₀ top (at (u .number) (decided Aborted) l) h (undone (undoList (u ∷ us)) cs) [] (map requeued us ++ ws) [] inv; rises = h; grows = grows-front (decided Aborted) }
+    pub abort-inv : (σ : Scheme) → Got cs₀ l (at (u .number) (decided Aborted) l) top [] (aborted σ cs (u ∷ us) ws)
+    abort-inv σ = record { after = drain-inv σ cs₀ top (at (u .number) (decided Aborted) l) h (undone (undoList (u ∷ us)) cs) [] (map requeued us ++ ws) [] inv; rises = h; grows = grows-front (decided Aborted) }
       where
         gone : Tx
         gone = decided Aborted (txOf (i .more) u)
@@ -270,11 +271,11 @@ module _ (cs₀ : Cells) (top : ℕ) (l : Log) (rises : InOrder 0 top l) (cs : C
         }
 
 -- "Arrival, number of the front": an unfinished front is alone
-pub again-inv : (cs₀ : Cells) (top : ℕ) (l : Log) (rises : InOrder 0 top l) (cs : Cells) (ws : List Waiting) (as′ : List Answer) (u : Uncommitted) (us : List Uncommitted)
-    (i : Inv cs₀ l cs (u ∷ us) ws as′) (f : Fragment) → finished (u .state) ≡ false → Got cs₀ l (at (u .number) (extended f) l) top as′ (continued f cs u us ws)
-again-inv cs₀ top l rises cs ws as′ u (v ∷ us) i f nf = absurd (true≢false (sym (i .ready .0) ∙ nf))
-again-inv cs₀ top l rises cs ws as′ u [] i f nf = record {
-  after = sends-drains cs₀ top (at (u .number) (extended f) l) h (run f cs (u .undo) .cells) (again u f (run f cs (u .undo)) ∷ []) ws as′ (answer (u .number) 0 (run f cs (u .undo) .outcome) ∷ []) (
+pub again-inv : (σ : Scheme) (cs₀ : Cells) (top : ℕ) (l : Log) (rises : InOrder 0 top l) (cs : Cells) (ws : List Waiting) (as′ : List Answer) (u : Uncommitted) (us : List Uncommitted)
+    (i : Inv cs₀ l cs (u ∷ us) ws as′) (f : Fragment) → finished (u .state) ≡ false → Got cs₀ l (at (u .number) (extended f) l) top as′ (continued σ f cs u us ws)
+again-inv σ cs₀ top l rises cs ws as′ u (v ∷ us) i f nf = absurd (true≢false (sym (i .ready .0) ∙ nf))
+again-inv σ cs₀ top l rises cs ws as′ u [] i f nf = record {
+  after = sends-drains σ cs₀ top (at (u .number) (extended f) l) h (run f cs (u .undo) .cells) (again u f (run f cs (u .undo)) ∷ []) ws as′ (answer (u .number) 0 (run f cs (u .undo) .outcome) ∷ []) (
     (
       refl,
       gives-at cs₀ top (at (u .number) (extended f) l) (i .past) (txOf (i .more ++ (f ∷ [])) u) (map asTx ws) (run f cs (u .undo) .outcome) h log
@@ -316,10 +317,10 @@ again-inv cs₀ top l rises cs ws as′ u [] i f nf = record {
         go a z (inr y) = inr y
 
 -- "Arrival, new number": join the end of the waiting queue
-pub new-inv : (cs₀ : Cells) (top : ℕ) (l : Log) (rises : InOrder 0 top l) (cs : Cells) (us : List Uncommitted) (ws : List Waiting) (as′ : List Answer) (w : Waiting)
-    (i : Inv cs₀ l cs us ws as′) → top < w .number → Got cs₀ l (l ++ asTx w ∷ []) (w .number) as′ (joined (w .number) (w .fragment) cs us ws)
-new-inv cs₀ top l rises cs us ws as′ w i k = record {
-  after = drain-inv cs₀ (w .number) (l ++ asTx w ∷ []) h cs us (ws ++ (w ∷ [])) as′ (record {
+pub new-inv : (σ : Scheme) (cs₀ : Cells) (top : ℕ) (l : Log) (rises : InOrder 0 top l) (cs : Cells) (us : List Uncommitted) (ws : List Waiting) (as′ : List Answer) (w : Waiting)
+    (i : Inv cs₀ l cs us ws as′) → top < w .number → Got cs₀ l (l ++ asTx w ∷ []) (w .number) as′ (joined σ (w .number) (w .fragment) cs us ws)
+new-inv σ cs₀ top l rises cs us ws as′ w i k = record {
+  after = drain-inv σ cs₀ (w .number) (l ++ asTx w ∷ []) h cs us (ws ++ (w ∷ [])) as′ (record {
     past = i .past;
     base = i .base;
     more = i .more;

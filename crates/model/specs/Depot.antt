@@ -9,6 +9,7 @@ use Rattle.model.specs.Transactions.{Engine, Answer, answer}
 use Rattle.model.specs.Refusals.{Stepped, step, start}
 use Rattle.model.specs.declared.Op.{Op}
 use Rattle.model.specs.declared.Event.{Event}
+use Rattle.model.specs.declared.Scheme.the-variants.{Speculation}
 
 -- what a trace prints: a number and answers for each event, then the cells
 pub record Printed : Type 0 where
@@ -21,7 +22,7 @@ printed es cs = record { events = es; cells = cs }
 unfoldable pub traced : Engine → Cells → List Event → Printed
 traced e cs [] = printed [] cs
 traced e cs (v ∷ vs) =
-    let s = step e (record { event = v; lent = cs; room = replicate leastRoom 0 }) in
+    let s = step e (record { scheme = Speculation; event = v; lent = cs; room = replicate leastRoom 0 }) in
     let p = traced (s .engine) (s .cells) vs in
     printed ((s .number, s .answers) ∷ p .events) (p .cells)
 

@@ -12,6 +12,7 @@ use Rattle.model.specs.declared.Op.{Op}
 use Rattle.model.specs.declared.Fragment.{Fragment}
 use Rattle.model.specs.declared.Event.{Event}
 use Rattle.model.specs.declared.Undo.{Undo}
+use Rattle.model.specs.declared.Scheme.{Scheme}
 
 abbrev pub every : {A : Type 0} → (A → Bool) → List A → Bool
 every p [] = true
@@ -136,8 +137,9 @@ clauses e =
 unfoldable pub sound : Engine → Bool
 sound e = every (λ (b : Bool). b) (clauses e)
 
--- A call: the event, the cells lent and the answer room lent, with what they hold
+-- A call: its scheme, the event, the cells lent and the answer room lent, with what they hold. No record keeps a scheme, and no refusal asks it.
 pub record Call : Type 0 where
+  pub scheme : Scheme
   pub event : Event
   pub lent : Cells
   pub room : List ℕ
@@ -206,10 +208,10 @@ unfoldable pub refusal : Engine → Call → ℕ
 refusal e c = firstOf (rows e c)
 
 -- an accepted request: the steps, and the largest number accepted
-abbrev pub taken : Request → Engine → Cells → Queues
-taken (Arrive n f) e cs = arrived n f cs (e .uncommitted) (e .waiting)
-taken (Commit n) e cs = committed cs (e .uncommitted) (e .waiting)
-taken (Abort n) e cs = aborted cs (e .uncommitted) (e .waiting)
+abbrev pub taken : Scheme → Request → Engine → Cells → Queues
+taken σ (Arrive n f) e cs = arrived σ n f cs (e .uncommitted) (e .waiting)
+taken σ (Commit n) e cs = committed σ cs (e .uncommitted) (e .waiting)
+taken σ (Abort n) e cs = aborted σ cs (e .uncommitted) (e .waiting)
 
 abbrev pub largestAfter : Request → Engine → ℕ
 largestAfter (Arrive n f) e = elim (new n e) [ true ↦ n | false ↦ e .largest ]
@@ -227,7 +229,7 @@ pub record Stepped : Type 0 where
 -- "Every refusal leaves record, cells and answer room untouched and reports 0 answers."
 abbrev pub respond : ℕ → Engine → Call → Stepped
 respond zero e c =
-    let q = taken (request (c .event)) e (c .lent) in
+    let q = taken (c .scheme) (request (c .event)) e (c .lent) in
     record {
       number = 0;
       engine = record { count = e .count; largest = largestAfter (request (c .event)) e; uncommitted = q .uncommitted; waiting = q .waiting };

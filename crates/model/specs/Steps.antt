@@ -12,6 +12,8 @@ use Rattle.model.specs.declared.Fragment.{Fragment}
 use Rattle.model.specs.declared.Undo.{Undo}
 use Rattle.model.specs.declared.Did.{Did}
 use Rattle.model.specs.declared.Did.the-variants.{Number, Fails}
+use Rattle.model.specs.declared.Scheme.{Scheme}
+use Rattle.model.specs.declared.Scheme.the-variants.{Speculation, Blocking}
 
 -- "Undoing walks the entries from the newest to the oldest": what stands behind u in the list is newer, and goes first.
 unfoldable pub undone : List Undo → Cells → Cells
@@ -65,10 +67,11 @@ lastFinished [] = true
 lastFinished (u ∷ []) = finished (u .state)
 lastFinished (u ∷ v ∷ us) = lastFinished (v ∷ us)
 
--- "either nothing is uncommitted or fewer than 16 are and the last of them is finished locally"
-abbrev pub mayTake : List Uncommitted → Bool
-mayTake [] = true
-mayTake (u ∷ us) = ltb (length (u ∷ us)) depth && lastFinished (u ∷ us)
+-- "either nothing is uncommitted or fewer than 16 are and the last of them is finished locally"; in the blocking scheme (02, L5) "the drain runs
+-- only while nothing is uncommitted". The schemes differ here and nowhere else.
+abbrev pub mayTake : Scheme → List Uncommitted → Bool
+mayTake σ [] = true
+mayTake σ (u ∷ us) = elim σ [ Speculation ↦ ltb (length (u ∷ us)) depth && lastFinished (u ∷ us) | Blocking ↦ false ]
 
 -- uncommitted ones, and answers sent
 pub record Place : Type 0 where
@@ -104,12 +107,12 @@ abbrev pub sending : List Answer → Queues → Queues
 sending l q = record { cells = q .cells; uncommitted = q .uncommitted; waiting = q .waiting; answers = l ++ q .answers }
 
 -- "Drain: while something waits, and ..: take the first waiting one and run it."
-unfoldable pub drain : Cells → List Uncommitted → List Waiting → Queues
-drain cs us [] = record { cells = cs; uncommitted = us; waiting = []; answers = [] }
-drain cs us (w ∷ ws) =
-    elim (mayTake us) [
+unfoldable pub drain : Scheme → Cells → List Uncommitted → List Waiting → Queues
+drain σ cs us [] = record { cells = cs; uncommitted = us; waiting = []; answers = [] }
+drain σ cs us (w ∷ ws) =
+    elim (mayTake σ us) [
       | false ↦ record { cells = cs; uncommitted = us; waiting = w ∷ ws; answers = [] }
-      | true ↦ let p = placed us w (run (w .fragment) cs []) in sending (p .answers) (drain (run (w .fragment) cs [] .cells) (p .uncommitted) ws)
+      | true ↦ let p = placed us w (run (w .fragment) cs []) in sending (p .answers) (drain σ (run (w .fragment) cs [] .cells) (p .uncommitted) ws)
     ]
 
 -- the front after one more fragment
@@ -117,17 +120,17 @@ abbrev pub again : Uncommitted → Fragment → Ran → Uncommitted
 again u f r = record { number = u .number; first = u .first; ran = u .ran + 1; state = stateAfter f (r .outcome); reply = Sent; undo = r .undo }
 
 -- "Arrival, new number: join the end of the waiting queue, then drain."
-abbrev pub joined : ℕ → Fragment → Cells → List Uncommitted → List Waiting → Queues
-joined n f cs us ws = drain cs us (ws ++ (record { number = n; fragment = f } ∷ []))
+abbrev pub joined : Scheme → ℕ → Fragment → Cells → List Uncommitted → List Waiting → Queues
+joined σ n f cs us ws = drain σ cs us (ws ++ (record { number = n; fragment = f } ∷ []))
 
 -- "Arrival, number of the front (first uncommitted): run the fragment, answer with dependence 0, then drain."
-abbrev pub continued : Fragment → Cells → Uncommitted → List Uncommitted → List Waiting → Queues
-continued f cs u us ws =
-    let r = run f cs (u .undo) in sending (answer (u .number) 0 (r .outcome) ∷ []) (drain (r .cells) (again u f r ∷ us) ws)
+abbrev pub continued : Scheme → Fragment → Cells → Uncommitted → List Uncommitted → List Waiting → Queues
+continued σ f cs u us ws =
+    let r = run f cs (u .undo) in sending (answer (u .number) 0 (r .outcome) ∷ []) (drain σ (r .cells) (again u f r ∷ us) ws)
 
-abbrev pub arrived : ℕ → Fragment → Cells → List Uncommitted → List Waiting → Queues
-arrived n f cs [] ws = joined n f cs [] ws
-arrived n f cs (u ∷ us) ws = elim (eqb (u .number) n) [ false ↦ joined n f cs (u ∷ us) ws | true ↦ continued f cs u us ws ]
+abbrev pub arrived : Scheme → ℕ → Fragment → Cells → List Uncommitted → List Waiting → Queues
+arrived σ n f cs [] ws = joined σ n f cs [] ws
+arrived σ n f cs (u ∷ us) ws = elim (eqb (u .number) n) [ false ↦ joined σ n f cs (u ∷ us) ws | true ↦ continued σ f cs u us ws ]
 
 -- "if its answer was held, it is sent now with dependence 0, and if it was sent earlier it is not repeated"
 abbrev pub heldBy : Uncommitted → List Answer
@@ -146,15 +149,15 @@ settled (u ∷ us) =
     ]
 
 -- "Commit of the front: it settles. Then singles settle .. Then drain." Its entries go with it.
-abbrev pub committed : Cells → List Uncommitted → List Waiting → Queues
-committed cs [] ws = record { cells = cs; uncommitted = []; waiting = ws; answers = [] }
-committed cs (u ∷ us) ws = sending (settled us .answers) (drain cs (settled us .uncommitted) ws)
+abbrev pub committed : Scheme → Cells → List Uncommitted → List Waiting → Queues
+committed σ cs [] ws = record { cells = cs; uncommitted = []; waiting = ws; answers = [] }
+committed σ cs (u ∷ us) ws = sending (settled us .answers) (drain σ cs (settled us .uncommitted) ws)
 
 -- "the others return to the head of the waiting queue in their old order"
 abbrev pub requeued : Uncommitted → Waiting
 requeued u = record { number = u .number; fragment = u .first }
 
 -- "Abort of the front: undo all uncommitted from the tail to the front; the front is gone; the others return .. Then drain."
-abbrev pub aborted : Cells → List Uncommitted → List Waiting → Queues
-aborted cs [] ws = record { cells = cs; uncommitted = []; waiting = ws; answers = [] }
-aborted cs (u ∷ us) ws = drain (undone (undoList (u ∷ us)) cs) [] (map requeued us ++ ws)
+abbrev pub aborted : Scheme → Cells → List Uncommitted → List Waiting → Queues
+aborted σ cs [] ws = record { cells = cs; uncommitted = []; waiting = ws; answers = [] }
+aborted σ cs (u ∷ us) ws = drain σ (undone (undoList (u ∷ us)) cs) [] (map requeued us ++ ws)

@@ -56,3 +56,10 @@ pub struct Undo {
     pub cell: u32,
     pub old: u32,
 }
+
+// Which scheme a call runs by: 01's steps, which speculate behind a finished front, or 02's L5, which runs nothing while anything is
+// uncommitted.
+pub enum Scheme {
+    Speculation,
+    Blocking,
+}

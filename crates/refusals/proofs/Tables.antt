@@ -12,6 +12,7 @@ use Rattle.model.specs.Operations.{Cells, multi}
 use Rattle.model.specs.Transactions.{Uncommitted, Waiting, finished, failed, front, numbers}
 use Rattle.model.specs.Refusals.{rows, firstOf, isIn}
 use Rattle.model.specs.declared.Event.{Event}
+use Rattle.model.specs.declared.Scheme.{Scheme}
 use Rattle.record.specs.View.{fragmentAt, memberAt, uncommittedOf, waitingOf, viewOf}
 use Rattle.refusals.specs.Rest.{callOf, behindFirst, rowNumbers, frontIs, foreign, shapeRows, knownRows, fragmentRows, decisionRows}
 use Rattle.refusals.proofs.Firsts.{first-hit, first-miss}
@@ -65,7 +66,7 @@ module _ (live runs undo : List ℕ) where
   front-which zero n p = refl
   front-which (suc u) n p = ap {B = Bool} (λ (b : Bool). not b && eqb (getD live 0 0) n && p (memberAt live 0 runs 0 undo 0)) (sym (eqb·suc-zero u))
 
-module _ (count largest u w : ℕ) (live runs undo : List ℕ) (v : Event) (cells : Cells) (room : List ℕ) where
+module _ (σ : Scheme) (count largest u w : ℕ) (live runs undo : List ℕ) (v : Event) (cells : Cells) (room : List ℕ) where
   abbrev lives : Bool
   lives = isIn (v .number) (rowNumbers live 0 (u + w))
 
@@ -76,7 +77,7 @@ module _ (count largest u w : ℕ) (live runs undo : List ℕ) (v : Event) (cell
   isFirst = frontIs u live (v .number)
 
   abbrev whole : ℕ
-  whole = firstOf (behindFirst (rows (viewOf count largest u w live runs undo) (callOf v cells room)))
+  whole = firstOf (behindFirst (rows (viewOf count largest u w live runs undo) (callOf σ v cells room)))
 
   abbrev of-kind : Bool → Bool → List (ℕ × Bool)
   of-kind arrives commits =

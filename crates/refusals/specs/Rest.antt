@@ -10,10 +10,11 @@ use Rattle.model.specs.Transactions.{finished, failed}
 use Rattle.model.specs.Refusals.{Call, formedEvent, inside}
 use Rattle.model.specs.declared.Fragment.{Fragment}
 use Rattle.model.specs.declared.Event.{Event}
+use Rattle.model.specs.declared.Scheme.{Scheme}
 use Rattle.record.specs.View.{stateOf}
 
-abbrev pub callOf : Event → Cells → List ℕ → Call
-callOf v cells room = record { event = v; lent = cells; room = room }
+abbrev pub callOf : Scheme → Event → Cells → List ℕ → Call
+callOf σ v cells room = record { scheme = σ; event = v; lent = cells; room = room }
 
 -- row 1, soundness, is asked by another
 abbrev pub behindFirst : List (ℕ × Bool) → List (ℕ × Bool)

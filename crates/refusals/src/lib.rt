@@ -6,6 +6,7 @@ ghost use lib.Dec.{leb};
 ghost use Rattle.model.specs.Limits.{mostLive};
 ghost use Rattle.model.specs.Transactions.{finished};
 ghost use Rattle.model.specs.Refusals.{rows, firstOf, formedEvent, isIn};
+ghost use Rattle.model.specs.declared.Scheme.{Scheme};
 ghost use Rattle.record.specs.View.{viewOf, stateOf};
 ghost use Rattle.refusals.specs.Rest.{callOf, behindFirst, rowNumbers, frontIs, foreign, shapeRows, knownRows, fragmentRows, decisionRows};
 use model::Event;
@@ -191,7 +192,8 @@ pub(crate) fn decision_row(commits: bool, fresh: bool, front: bool, runs: &[u32]
     0
 }
 
-// "Checks run in this order and the first that applies is returned": from row 2 on, 0 where none of these rows applies.
+// "Checks run in this order and the first that applies is returned": from row 2 on, 0 where none of these rows applies;
+// whatever the scheme.
 pub fn refused_row(
     count: u32,
     largest: u32,
@@ -204,7 +206,7 @@ pub fn refused_row(
     room: &[u32],
     event: Event,
 ) -> u32
-    ensures { λ r. ⌜ r ≡ firstOf (behindFirst (rows (viewOf count largest uncommitted waiting (now (live .entry)) (now (runs .entry)) (now (undo .entry))) (callOf event (now (cells .entry)) (now (room .entry))))) ⌝ }
+    ensures { λ r. ⌜ ((σ : Scheme) → r ≡ firstOf (behindFirst (rows (viewOf count largest uncommitted waiting (now (live .entry)) (now (runs .entry)) (now (undo .entry))) (callOf σ event (now (cells .entry)) (now (room .entry)))))) ⌝ }
 {
     let shape = shape_row(count, cells, room, event);
     if shape != 0 {

@@ -5,6 +5,7 @@ use mathlib.Core.Path.{_≡_, refl, sym, ap, _∙_}
 use mathlib.Core.Bool.{Bool, true, false, not}
 use mathlib.Core.List.{List}
 use lib.Seq.{sets}
+use Rattle.model.specs.declared.Scheme.the-variants.{Speculation}
 use Rattle.model.specs.Operations.{Cells}
 use Rattle.model.specs.declared.Event.{Event}
 use Rattle.record.specs.declared.Record.{Record}
@@ -34,8 +35,8 @@ module _ (bytes : List ℕ) (first n i : ℕ) where
       λ j. laid (eventsLines bytes (o j) (p j) (q j) k) b
 
   module _ (r : Record) (cells room : List ℕ) (all : Kept) (inv : played bytes (first + 29 * i) (n - i) (kept r cells room) ≡ all) where
-    pub play-turn : (v : Event) (d : Called) (cells′ room′ : List ℕ) → i < n → v ≡ eventAt bytes (first + 29 * i) → d ≡ called r v cells room → cells′ ≡ cellsAfter r v cells room
-        → room′ ≡ roomAfter r v cells room → played bytes (first + 29 * (i + 1)) (n - (i + 1)) (kept (d .next) cells′ room′) ≡ all
+    pub play-turn : (v : Event) (d : Called) (cells′ room′ : List ℕ) → i < n → v ≡ eventAt bytes (first + 29 * i) → d ≡ called Speculation r v cells room → cells′ ≡ cellsAfter Speculation r v cells room
+        → room′ ≡ roomAfter Speculation r v cells room → played bytes (first + 29 * (i + 1)) (n - (i + 1)) (kept (d .next) cells′ room′) ≡ all
     unfolding played taken
     play-turn v d cells′ room′ h ev ed ec er =
         let e : n - i ≡ suc (n - (i + 1)) = omega arith in
@@ -51,14 +52,14 @@ module _ (bytes : List ℕ) (first n i : ℕ) where
         ap (λ (x : ℕ). played bytes (first + 29 * i) x (kept r cells room) .cells) (sym e) ∙ ap (λ (k : Kept). k .cells) inv
 
   module _ (r : Record) (cells room b all : List ℕ) (inv : laid (eventsLines bytes (i + 1) (first + 29 * i) (n - i) (kept r cells room)) b ≡ all) where
-    pub print-turn : (v : Event) (d : Called) (cells′ room′ b′ : List ℕ) → i < n → v ≡ eventAt bytes (first + 29 * i) → d ≡ called r v cells room → cells′ ≡ cellsAfter r v cells room
-        → room′ ≡ roomAfter r v cells room → b′ ≡ laid (eventLines (i + 1) (d .number) (d .answers) room′) b
+    pub print-turn : (v : Event) (d : Called) (cells′ room′ b′ : List ℕ) → i < n → v ≡ eventAt bytes (first + 29 * i) → d ≡ called Speculation r v cells room → cells′ ≡ cellsAfter Speculation r v cells room
+        → room′ ≡ roomAfter Speculation r v cells room → b′ ≡ laid (eventLines (i + 1) (d .number) (d .answers) room′) b
         → laid (eventsLines bytes (i + 1 + 1) (first + 29 * (i + 1)) (n - (i + 1)) (kept (d .next) cells′ room′)) b′ ≡ all
     unfolding eventsLines taken
     print-turn v d cells′ room′ b′ h ev ed ec er eb =
         let e : n - i ≡ suc (n - (i + 1)) = omega arith in
         let p : first + 29 * (i + 1) ≡ first + 29 * i + 29 = omega arith in
-        let here : Event → Lines = λ x. eventLines (i + 1) (called r x cells room .number) (called r x cells room .answers) (roomAfter r x cells room) in
+        let here : Event → Lines = λ x. eventLines (i + 1) (called Speculation r x cells room .number) (called Speculation r x cells room .answers) (roomAfter Speculation r x cells room) in
         let rest : Event → Lines = λ x. eventsLines bytes (i + 1 + 1) (first + 29 * i + 29) (n - (i + 1)) (taken x (kept r cells room)) in
         let u : Event = eventAt bytes (first + 29 * i) in
         ap (laid (eventsLines bytes (i + 1 + 1) (first + 29 * (i + 1)) (n - (i + 1)) (kept (d .next) cells′ room′))) eb

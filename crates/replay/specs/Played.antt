@@ -4,6 +4,7 @@ use mathlib.Core.List.{List}
 use lib.Seq.{sets}
 use Rattle.model.specs.Operations.{Cells}
 use Rattle.model.specs.declared.Event.{Event}
+use Rattle.model.specs.declared.Scheme.the-variants.{Speculation}
 use Rattle.record.specs.declared.Record.{Record}
 use Rattle.engine.specs.Called.{called, cellsAfter, roomAfter, freshOf}
 use Rattle.trace.specs.Format.{wordsFrom, eventAt}
@@ -19,7 +20,7 @@ kept r cells room = record { next = r; cells = cells; room = room }
 
 -- one event
 unfoldable pub taken : Event → Kept → Kept
-taken v k = kept (called (k .next) v (k .cells) (k .room) .next) (cellsAfter (k .next) v (k .cells) (k .room)) (roomAfter (k .next) v (k .cells) (k .room))
+taken v k = kept (called Speculation (k .next) v (k .cells) (k .room) .next) (cellsAfter Speculation (k .next) v (k .cells) (k .room)) (roomAfter Speculation (k .next) v (k .cells) (k .room))
 
 -- n events in order, the first at word b
 unfoldable pub played : List ℕ → ℕ → ℕ → Kept → Kept

@@ -4,6 +4,7 @@ use mathlib.Core.List.{List, [], _∷_, _++_}
 use lib.ListN.{getD, replicate}
 use lib.Seq.{sets}
 use Rattle.model.specs.Operations.{Cells}
+use Rattle.model.specs.declared.Scheme.the-variants.{Speculation}
 use Rattle.engine.specs.declared.Called.{Called}
 use Rattle.engine.specs.Called.{called, roomAfter}
 use Rattle.trace.specs.declared.Shape.{Shape}
@@ -33,8 +34,8 @@ unfoldable pub eventsLines : List ℕ → ℕ → ℕ → ℕ → Kept → Lines
 eventsLines bytes position b zero k = []
 eventsLines bytes position b (suc n) k =
     let v = eventAt bytes b in
-    let d = called (k .next) v (k .cells) (k .room) in
-    eventLines position (d .number) (d .answers) (roomAfter (k .next) v (k .cells) (k .room)) ++ eventsLines bytes (position + 1) (b + 29) n (taken v k)
+    let d = called Speculation (k .next) v (k .cells) (k .room) in
+    eventLines position (d .number) (d .answers) (roomAfter Speculation (k .next) v (k .cells) (k .room)) ++ eventsLines bytes (position + 1) (b + 29) n (taken v k)
 
 -- "and at the end `c` cell and content for each cell": the first n
 abbrev pub cellLines : Cells → ℕ → Lines

@@ -45,6 +45,7 @@ use denote.Triple.Walked.{says, Stays, stay-ref, gave-slice, stay-none-slice, wa
 use denote.Exit.{yes}
 use Rattle.record.specs.declared.Record.{Record}
 use Rattle.engine.specs.declared.Called.{Called}
+use Rattle.model.specs.declared.Scheme.the-variants.{Speculation}
 use Rattle.engine.specs.declared.Turned.{Turned}
 use Rattle.engine.specs.Called.{recordBy, turned}
 use Rattle.boundary.specs.Words.{eventOf}
@@ -152,7 +153,7 @@ module _ {M : Type 1} (𝓤 : URA M) (H : Heap 𝓤) (A : Atoms 𝓤) (W : Given
 
   -- what `turn` says
   abbrev Said : Called → List ℕ → List ℕ → Type 0
-  Said d ys zs = answered h (eventOf (ev .now)) (cs .now) (rm .now) d ys zs
+  Said d ys zs = answered Speculation h (eventOf (ev .now)) (cs .now) (rm .now) d ys zs
 
   exits : (d : Called) (ys zs : List ℕ) → d .number < 2 ^ 32 → length ys ≡ length (cs .now) → length zs ≡ length (rm .now) → Said d ys zs
       → ent 𝓤

@@ -12,14 +12,14 @@ use Rattle.engine.proofs.queues.drain.Reads as drain-reads
 abort-requires : tie.Need-abort-requires
 abort-requires c κs = let a = c .before .before .before .before .before .before .before .before .args in
     let p = c .before .before .before .before .before .before .before .before .pre in
-    (fair-of (a .live .now) (a .runs .now) (a .undo .now) (a .room .now) (a .cells .now) (a .c) (a .event) (p .0 .0) (p .0 .1), some-uncommitted (a .live .now) (a .runs .now) (a .undo .now) (a .room .now) (a .cells .now) (a .c) (a .event) (p .0 .0) (p .0 .1) (ne-eqb (a .event .kind) 1 (p .1 .0)))
+    (fair-of (a .scheme) (a .live .now) (a .runs .now) (a .undo .now) (a .room .now) (a .cells .now) (a .c) (a .event) (p .0 .0) (p .0 .1), some-uncommitted (a .scheme) (a .live .now) (a .runs .now) (a .undo .now) (a .room .now) (a .cells .now) (a .c) (a .event) (p .0 .0) (p .0 .1) (ne-eqb (a .event .kind) 1 (p .1 .0)))
 
 -- src/lib.rt:98:5
 drain-requires : tie.Need-drain-requires
 drain-requires c κs = let a = c .before .before .before .before .before .before .before .before .before .before .before .before .before .before .before .before .before .before .before .args in
     let p = c .before .before .before .before .before .before .before .before .before .before .before .before .before .before .before .before .before .before .before .pre in
     let s = c .before .before .before .before .before .before .before .before .before .before .abort in
-    abort-begun (a .live .now) (a .runs .now) (a .undo .now) (a .room .now) (a .cells .now) (a .c) (a .event) (p .0 .0) (p .0 .1) (ne-eqb (a .event .kind) 1 (p .1 .0)) (ne-eqb (a .event .kind) 2 (p .1 .1)) (s .last .0) (s .last .1 .0) (s .last .1 .1 .0) (s .result) (s .ensures .1) (s .ensures .0) .small
+    abort-begun (a .scheme) (a .live .now) (a .runs .now) (a .undo .now) (a .room .now) (a .cells .now) (a .c) (a .event) (p .0 .0) (p .0 .1) (ne-eqb (a .event .kind) 1 (p .1 .0)) (ne-eqb (a .event .kind) 2 (p .1 .1)) (s .last .0) (s .last .1 .0) (s .last .1 .1 .0) (s .result) (s .ensures .1) (s .ensures .0) .small
 
 -- src/lib.rt:91:1
 same-length : tie.Need-same-length
@@ -43,8 +43,8 @@ returns c = let a = c .before .before .before .before .before .before .before .b
     let p = c .before .before .before .before .before .before .before .before .before .before .before .before .before .before .before .before .before .before .before .before .before .before .before .before .before .before .before .before .pre in
     let s = c .before .before .before .before .before .before .before .before .before .before .before .before .before .before .before .before .before .before .before .abort in
     let d = c .before .before .before .before .before .before .before .before .drain in (
-      λ e rd. drained-left (a .live .now) (s .last .0) (s .last .1 .0) (a .room .now) (d .last .1 .0) (d .last .1 .1 .0) (d .last .1 .1 .1 .1 .0) (s .last .1 .1 .0) (d .last .1 .1 .1 .0) (s .result) (d .result) (a .room .now) _
-          (abort-begun (a .live .now) (a .runs .now) (a .undo .now) (a .room .now) (a .cells .now) (a .c) (a .event) e rd (ne-eqb (a .event .kind) 1 (p .1 .0)) (ne-eqb (a .event .kind) 2 (p .1 .1)) (s .last .0) (s .last .1 .0) (s .last .1 .1 .0) (s .result) (s .ensures .1) (s .ensures .0))
+      λ e rd. drained-left (a .scheme) (a .live .now) (s .last .0) (s .last .1 .0) (a .room .now) (d .last .1 .1 .0) (d .last .1 .1 .1 .0) (d .last .1 .1 .1 .1 .1 .0) (s .last .1 .1 .0) (d .last .1 .1 .1 .1 .0) (s .result) (d .result) (a .room .now) _
+          (abort-begun (a .scheme) (a .live .now) (a .runs .now) (a .undo .now) (a .room .now) (a .cells .now) (a .c) (a .event) e rd (ne-eqb (a .event .kind) 1 (p .1 .0)) (ne-eqb (a .event .kind) 2 (p .1 .1)) (s .last .0) (s .last .1 .0) (s .last .1 .1 .0) (s .result) (s .ensures .1) (s .ensures .0))
           (d .ensures .1),
       d .ensures .0 .live,
     )

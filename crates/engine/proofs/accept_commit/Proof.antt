@@ -13,14 +13,14 @@ use Rattle.engine.proofs.queues.drain.Reads as drain-reads
 commit-requires : tie.Need-commit-requires
 commit-requires c κs = let a = c .before .before .before .before .before .before .before .before .args in
     let p = c .before .before .before .before .before .before .before .before .pre in
-    (fair-of (a .live .now) (a .runs .now) (a .undo .now) (a .room .now) (a .cells .now) (a .c) (a .event) (p .0 .0) (p .0 .1), some-uncommitted (a .live .now) (a .runs .now) (a .undo .now) (a .room .now) (a .cells .now) (a .c) (a .event) (p .0 .0) (p .0 .1) (ne-eqb (a .event .kind) 1 (λ z. omega (arith, p .1))))
+    (fair-of (a .scheme) (a .live .now) (a .runs .now) (a .undo .now) (a .room .now) (a .cells .now) (a .c) (a .event) (p .0 .0) (p .0 .1), some-uncommitted (a .scheme) (a .live .now) (a .runs .now) (a .undo .now) (a .room .now) (a .cells .now) (a .c) (a .event) (p .0 .0) (p .0 .1) (ne-eqb (a .event .kind) 1 (λ z. omega (arith, p .1))))
 
 -- src/lib.rt:87:5
 drain-requires : tie.Need-drain-requires
 drain-requires c κs = let a = c .before .before .before .before .before .before .before .before .before .before .before .before .before .before .before .before .before .before .before .args in
     let p = c .before .before .before .before .before .before .before .before .before .before .before .before .before .before .before .before .before .before .before .pre in
     let s = c .before .before .before .before .before .before .before .before .before .before .commit in
-    commit-begun (a .live .now) (a .runs .now) (a .undo .now) (a .room .now) (a .cells .now) (a .c) (a .event) (p .0 .0) (p .0 .1) (ne-eqb (a .event .kind) 1 (λ z. omega (arith, p .1))) (eq-eqb (a .event .kind) 2 (p .1)) (s .last .1 .0) (s .last .1 .1 .0) (s .last .1 .1 .1 .0) (s .result) (s .ensures .1) (s .ensures .0) .small
+    commit-begun (a .scheme) (a .live .now) (a .runs .now) (a .undo .now) (a .room .now) (a .cells .now) (a .c) (a .event) (p .0 .0) (p .0 .1) (ne-eqb (a .event .kind) 1 (λ z. omega (arith, p .1))) (eq-eqb (a .event .kind) 2 (p .1)) (s .last .1 .0) (s .last .1 .1 .0) (s .last .1 .1 .1 .0) (s .result) (s .ensures .1) (s .ensures .0) .small
 
 -- src/lib.rt:80:1
 same-length : tie.Need-same-length
@@ -44,8 +44,8 @@ returns c = let a = c .before .before .before .before .before .before .before .b
     let p = c .before .before .before .before .before .before .before .before .before .before .before .before .before .before .before .before .before .before .before .before .before .before .before .before .before .before .before .before .pre in
     let s = c .before .before .before .before .before .before .before .before .before .before .before .before .before .before .before .before .before .before .before .commit in
     let d = c .before .before .before .before .before .before .before .before .drain in (
-      λ e rd. drained-left (a .live .now) (s .last .1 .0) (s .last .1 .1 .0) (s .last .1 .1 .1 .0) (d .last .1 .0) (d .last .1 .1 .0) (d .last .1 .1 .1 .1 .0) (a .cells .now) (d .last .1 .1 .1 .0) (s .result) (d .result) (a .room .now) _
-          (commit-begun (a .live .now) (a .runs .now) (a .undo .now) (a .room .now) (a .cells .now) (a .c) (a .event) e rd (ne-eqb (a .event .kind) 1 (λ z. omega (arith, p .1))) (eq-eqb (a .event .kind) 2 (p .1)) (s .last .1 .0) (s .last .1 .1 .0) (s .last .1 .1 .1 .0) (s .result) (s .ensures .1) (s .ensures .0))
+      λ e rd. drained-left (a .scheme) (a .live .now) (s .last .1 .0) (s .last .1 .1 .0) (s .last .1 .1 .1 .0) (d .last .1 .1 .0) (d .last .1 .1 .1 .0) (d .last .1 .1 .1 .1 .1 .0) (a .cells .now) (d .last .1 .1 .1 .1 .0) (s .result) (d .result) (a .room .now) _
+          (commit-begun (a .scheme) (a .live .now) (a .runs .now) (a .undo .now) (a .room .now) (a .cells .now) (a .c) (a .event) e rd (ne-eqb (a .event .kind) 1 (λ z. omega (arith, p .1))) (eq-eqb (a .event .kind) 2 (p .1)) (s .last .1 .0) (s .last .1 .1 .0) (s .last .1 .1 .1 .0) (s .result) (s .ensures .1) (s .ensures .0))
           (d .ensures .1),
       d .ensures .0 .live,
     )

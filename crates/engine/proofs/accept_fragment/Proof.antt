@@ -19,14 +19,14 @@ is-front-requires c κs = search needs
 continue-front-requires : tie.Need-continue-front-requires
 continue-front-requires c κs = let a = c .before .before .before .before .before .before .before .before .before .before .before .before .before .before .args in
     let p = c .before .before .before .before .before .before .before .before .before .before .before .before .before .before .pre in
-    (fair-of (a .live .now) (a .runs .now) (a .undo .now) (a .room .now) (a .cells .now) (a .c) (a .event) (p .0 .0) (p .0 .1), front-some (a .c .uncommitted) (a .live .now) (a .event .number) (sym (c .before .before .before .before .before .before .is-front .ensures) ∙ c .before .before .before .before .before .if1 .taken))
+    (fair-of (a .scheme) (a .live .now) (a .runs .now) (a .undo .now) (a .room .now) (a .cells .now) (a .c) (a .event) (p .0 .0) (p .0 .1), front-some (a .c .uncommitted) (a .live .now) (a .event .number) (sym (c .before .before .before .before .before .before .is-front .ensures) ∙ c .before .before .before .before .before .if1 .taken))
 
 -- src/lib.rt:73:9
 drain-requires : tie.Need-drain-requires
 drain-requires c κs = let a = c .before .before .before .before .before .before .before .before .before .before .before .before .before .before .before .before .before .before .before .before .before .before .before .before .before .before .before .before .args in
     let p = c .before .before .before .before .before .before .before .before .before .before .before .before .before .before .before .before .before .before .before .before .before .before .before .before .before .before .before .before .pre in
     let s = c .before .before .before .before .before .before .before .before .before .before .before .before .before .continue-front in
-    continue-begun (a .live .now) (a .runs .now) (a .undo .now) (a .room .now) (a .cells .now) (a .c) (a .event) (p .0 .0) (p .0 .1) (eq-eqb (a .event .kind) 1 (p .1)) (sym (c .before .before .before .before .before .before .before .before .before .before .before .before .before .before .before .before .before .before .before .before .is-front .ensures) ∙ c .before .before .before .before .before .before .before .before .before .before .before .before .before .before .before .before .before .before .before .if1 .taken)
+    continue-begun (a .scheme) (a .live .now) (a .runs .now) (a .undo .now) (a .room .now) (a .cells .now) (a .c) (a .event) (p .0 .0) (p .0 .1) (eq-eqb (a .event .kind) 1 (p .1)) (sym (c .before .before .before .before .before .before .before .before .before .before .before .before .before .before .before .before .before .before .before .before .is-front .ensures) ∙ c .before .before .before .before .before .before .before .before .before .before .before .before .before .before .before .before .before .before .before .if1 .taken)
     (s .last .1 .0) (s .last .1 .1 .0) (s .last .1 .1 .1 .1 .0) (s .last .1 .1 .1 .0) (s .result) (s .ensures .1) (s .ensures .0) .small
 
 -- src/lib.rt:73:9
@@ -55,8 +55,8 @@ returns c = let a = c .before .before .before .before .before .before .before .b
     let p = c .before .before .before .before .before .before .before .before .before .before .before .before .before .before .before .before .before .before .before .before .before .before .before .before .before .before .before .before .before .before .before .before .before .before .before .before .before .pre in
     let s = c .before .before .before .before .before .before .before .before .before .before .before .before .before .before .before .before .before .before .before .before .before .before .continue-front in
     let d = c .before .before .before .before .before .before .before .before .drain in (
-      λ e rd. drained-left (a .live .now) (s .last .1 .0) (s .last .1 .1 .0) (s .last .1 .1 .1 .1 .0) (d .last .1 .0) (d .last .1 .1 .0) (d .last .1 .1 .1 .1 .0) (s .last .1 .1 .1 .0) (d .last .1 .1 .1 .0) (s .result) (d .result) (a .room .now) _
-          (continue-begun (a .live .now) (a .runs .now) (a .undo .now) (a .room .now) (a .cells .now) (a .c) (a .event) e rd (eq-eqb (a .event .kind) 1 (p .1)) (sym (c .before .before .before .before .before .before .before .before .before .before .before .before .before .before .before .before .before .before .before .before .before .before .before .before .before .before .before .before .before .is-front .ensures) ∙ c .before .before .before .before .before .before .before .before .before .before .before .before .before .before .before .before .before .before .before .before .before .before .before .before .before .before .before .before .if1 .taken)
+      λ e rd. drained-left (a .scheme) (a .live .now) (s .last .1 .0) (s .last .1 .1 .0) (s .last .1 .1 .1 .1 .0) (d .last .1 .1 .0) (d .last .1 .1 .1 .0) (d .last .1 .1 .1 .1 .1 .0) (s .last .1 .1 .1 .0) (d .last .1 .1 .1 .1 .0) (s .result) (d .result) (a .room .now) _
+          (continue-begun (a .scheme) (a .live .now) (a .runs .now) (a .undo .now) (a .room .now) (a .cells .now) (a .c) (a .event) e rd (eq-eqb (a .event .kind) 1 (p .1)) (sym (c .before .before .before .before .before .before .before .before .before .before .before .before .before .before .before .before .before .before .before .before .before .before .before .before .before .before .before .before .before .is-front .ensures) ∙ c .before .before .before .before .before .before .before .before .before .before .before .before .before .before .before .before .before .before .before .before .before .before .before .before .before .before .before .before .if1 .taken)
           (s .last .1 .0) (s .last .1 .1 .0) (s .last .1 .1 .1 .1 .0) (s .last .1 .1 .1 .0) (s .result) (s .ensures .1) (s .ensures .0))
           (d .ensures .1),
       d .ensures .0 .live,
@@ -66,14 +66,14 @@ returns c = let a = c .before .before .before .before .before .before .before .b
 join-waiting-requires : tie.Need-join-waiting-requires
 join-waiting-requires c κs = let a = c .before .before .before .before .before .before .before .before .before .before .args in
     let p = c .before .before .before .before .before .before .before .before .before .before .pre in
-    fair-of (a .live .now) (a .runs .now) (a .undo .now) (a .room .now) (a .cells .now) (a .c) (a .event) (p .0 .0) (p .0 .1) .live
+    fair-of (a .scheme) (a .live .now) (a .runs .now) (a .undo .now) (a .room .now) (a .cells .now) (a .c) (a .event) (p .0 .0) (p .0 .1) .live
 
 -- src/lib.rt:76:5
 drain-requires-2 : tie.Need-drain-requires-2
 drain-requires-2 c κs = let a = c .before .before .before .before .before .before .before .before .before .before .before .before .before .before .before .before .before .before .args in
     let p = c .before .before .before .before .before .before .before .before .before .before .before .before .before .before .before .before .before .before .pre in
     let s = c .before .before .before .before .before .before .before .join-waiting in
-    join-begun (a .live .now) (a .runs .now) (a .undo .now) (a .room .now) (a .cells .now) (a .c) (a .event) (p .0 .0) (p .0 .1) (eq-eqb (a .event .kind) 1 (p .1)) (sym (c .before .before .before .before .before .before .before .before .before .before .is-front .ensures) ∙ c .before .before .before .before .before .before .before .before .before .if1 .left)
+    join-begun (a .scheme) (a .live .now) (a .runs .now) (a .undo .now) (a .room .now) (a .cells .now) (a .c) (a .event) (p .0 .0) (p .0 .1) (eq-eqb (a .event .kind) 1 (p .1)) (sym (c .before .before .before .before .before .before .before .before .before .before .is-front .ensures) ∙ c .before .before .before .before .before .before .before .before .before .if1 .left)
     (s .last .0) (s .result) (s .ensures .1) (s .ensures .0) .small
 
 -- src/lib.rt:63:1
@@ -102,8 +102,8 @@ returns-2 c = let a = c .before .before .before .before .before .before .before 
     let p = c .before .before .before .before .before .before .before .before .before .before .before .before .before .before .before .before .before .before .before .before .before .before .before .before .before .before .before .pre in
     let s = c .before .before .before .before .before .before .before .before .before .before .before .before .before .before .before .before .join-waiting in
     let d = c .before .before .before .before .before .before .before .before .drain2 in (
-      λ e rd. drained-left (s .last .0) (a .runs .now) (a .undo .now) (a .room .now) (d .last .1 .0) (d .last .1 .1 .0) (d .last .1 .1 .1 .1 .0) (a .cells .now) (d .last .1 .1 .1 .0) (s .result) (d .result) (a .room .now) _
-          (join-begun (a .live .now) (a .runs .now) (a .undo .now) (a .room .now) (a .cells .now) (a .c) (a .event) e rd (eq-eqb (a .event .kind) 1 (p .1)) (sym (c .before .before .before .before .before .before .before .before .before .before .before .before .before .before .before .before .before .before .before .is-front .ensures) ∙ c .before .before .before .before .before .before .before .before .before .before .before .before .before .before .before .before .before .before .if1 .left)
+      λ e rd. drained-left (a .scheme) (s .last .0) (a .runs .now) (a .undo .now) (a .room .now) (d .last .1 .1 .0) (d .last .1 .1 .1 .0) (d .last .1 .1 .1 .1 .1 .0) (a .cells .now) (d .last .1 .1 .1 .1 .0) (s .result) (d .result) (a .room .now) _
+          (join-begun (a .scheme) (a .live .now) (a .runs .now) (a .undo .now) (a .room .now) (a .cells .now) (a .c) (a .event) e rd (eq-eqb (a .event .kind) 1 (p .1)) (sym (c .before .before .before .before .before .before .before .before .before .before .before .before .before .before .before .before .before .before .before .is-front .ensures) ∙ c .before .before .before .before .before .before .before .before .before .before .before .before .before .before .before .before .before .before .if1 .left)
           (s .last .0) (s .result) (s .ensures .1) (s .ensures .0))
           (d .ensures .1),
       d .ensures .0 .live,

@@ -18,11 +18,11 @@ refused-row-requires c κs = search needs
 
 -- src/lib.rt:35:1
 returns : tie.Need-returns
-returns c = c .refused-row .ensures ∙ refused-sound _ _ (sym (c .before .before .is-sound .ensures) ∙ c .before .if1 .taken)
+returns c σ = c .refused-row .ensures σ ∙ refused-sound _ _ (sym (c .before .before .is-sound .ensures) ∙ c .before .if1 .taken)
 
 -- src/lib.rt:35:1
 returns-2 : tie.Need-returns-2
-returns-2 c = refused-unsound _ _ (sym (c .before .is-sound .ensures) ∙ c .if1 .left)
+returns-2 c σ = refused-unsound _ _ (sym (c .before .is-sound .ensures) ∙ c .if1 .left)
 
 pub refused-spec : {M : Type 1} → statement M
 refused-spec = tie.close (tie.spec is-sound-requires refused-row-requires returns returns-2)

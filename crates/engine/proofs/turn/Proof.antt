@@ -33,7 +33,7 @@ same-length-2 c = search needs
 -- src/lib.rt:216:9
 returns : tie.Need-returns
 returns c = let a = c .before .before .before .before .before .before .before .before .before .before .before .before .args in
-    refused-call (recordBy (a .count) (a .largest) (a .uncommitted) (a .waiting) (a .live .now) (a .runs .now) (a .undo .now)) (a .event) (a .cells .now) (a .room .now) (c .before .refused .result) (c .before .refused .ensures) (c .if1 .taken)
+    refused-call (a .scheme) (recordBy (a .count) (a .largest) (a .uncommitted) (a .waiting) (a .live .now) (a .runs .now) (a .undo .now)) (a .event) (a .cells .now) (a .room .now) (c .before .refused .result) (c .before .refused .ensures (a .scheme)) (c .if1 .taken)
 
 -- src/lib.rt:224:9
 tidy-requires : tie.Need-tidy-requires
@@ -44,11 +44,11 @@ accept-requires : tie.Need-accept-requires
 accept-requires c κs = let a = c .before .before .before .before .before .before .before .before .before .before .before .before .before .before .before .before .before .before .before .before .before .args in
     let r = recordBy (a .count) (a .largest) (a .uncommitted) (a .waiting) (a .live .now) (a .runs .now) (a .undo .now) in
     let t = c .before .before .before .before .before .tidy in
-    let z : refusal (view r) (callOf (a .event) (a .cells .now) (a .room .now)) ≡ 0 = sym (c .before .before .before .before .before .before .before .before .before .before .refused .ensures) ∙ search needs in (
+    let z : refusal (view r) (callOf (a .scheme) (a .event) (a .cells .now) (a .room .now)) ≡ 0 = sym (c .before .before .before .before .before .before .before .before .before .before .refused .ensures (a .scheme)) ∙ search needs in (
       view r,
-      ready r (a .event) (a .cells .now) (a .room .now) (t .result) (t .last .1 .1 .0) (t .last .1 .1 .1 .0) (t .last .1 .1 .1 .1 .0) z
-          (t .ensures (a .count) (a .largest) (search needs) (search needs) (search needs) (not-false (sound (view r)) (passed (view r) (callOf (a .event) (a .cells .now) (a .room .now)) z .one)))
-          (search (unmapped, c .before .before .before .before .before .before .before .before .before .before .before .before .before .before .before .before .before .before .before .before .before .good .1 .1 .1 .1 .1 .1 .1 .1 .0, needs)),
+      ready (a .scheme) r (a .event) (a .cells .now) (a .room .now) (t .result) (t .last .1 .1 .0) (t .last .1 .1 .1 .0) (t .last .1 .1 .1 .1 .0) z
+          (t .ensures (a .count) (a .largest) (search needs) (search needs) (search needs) (not-false (sound (view r)) (passed (view r) (callOf (a .scheme) (a .event) (a .cells .now) (a .room .now)) z .one)))
+          (search (unmapped, c .before .before .before .before .before .before .before .before .before .before .before .before .before .before .before .before .before .before .before .before .before .good .1 .1 .1 .1 .1 .1 .1 .1 .1 .0, needs)),
     )
 
 -- src/lib.rt:235:9
@@ -90,8 +90,8 @@ returns-2 c = let a = c .before .before .before .before .before .before .before 
     let r = recordBy (a .count) (a .largest) (a .uncommitted) (a .waiting) (a .live .now) (a .runs .now) (a .undo .now) in
     let d = c .before .before .before .before .before .before .before .before .before .before .accept in
     let ok = accept-requires (c .before .before .before .before .before .before .before .before .before .before .before) (d .lifetimes) in
-    accepted-call r (a .event) (a .cells .now) (a .room .now) (d .last .0) (c .before .shift .last .0) (d .last .1 .0) (d .last .1 .1 .0) (d .last .1 .1 .1 .1 .0) (d .last .1 .1 .1 .0) (d .result) (c .largest-after .result)
-    (sym (c .before .before .before .before .before .before .before .before .before .before .before .before .before .before .before .before .before .before .before .before .before .refused .ensures) ∙ c .before .before .before .before .before .before .before .before .before .before .before .before .before .before .before .before .before .before .before .before .if1 .left) (d .ensures .0 (view r) (ok .1)) (d .ensures .1) (c .before .shift .ensures) (c .largest-after .ensures)
+    accepted-call (a .scheme) r (a .event) (a .cells .now) (a .room .now) (d .last .1 .0) (c .before .shift .last .0) (d .last .1 .1 .0) (d .last .1 .1 .1 .0) (d .last .1 .1 .1 .1 .1 .0) (d .last .1 .1 .1 .1 .0) (d .result) (c .largest-after .result)
+    (sym (c .before .before .before .before .before .before .before .before .before .before .before .before .before .before .before .before .before .before .before .before .before .refused .ensures (a .scheme)) ∙ c .before .before .before .before .before .before .before .before .before .before .before .before .before .before .before .before .before .before .before .before .if1 .left) (d .ensures .0 (view r) (ok .1)) (d .ensures .1) (c .before .shift .ensures) (c .largest-after .ensures)
 
 pub turn-spec : {M : Type 1} → statement M
 turn-spec =

@@ -15,14 +15,14 @@ use Rattle.engine.proofs.queues.may_take.Reads as may-take-reads
 use Rattle.engine.proofs.queues.turn.Reads as turn-reads
 
 abbrev Inv-loop : tie.InvT-loop
-Inv-loop live runs₀ undo₀ cells₀ room₀ c₀ runs undo cells room c = Small c × (length runs ≡ length runs₀) × (length undo ≡ length undo₀) × (length cells ≡ length cells₀) × (length room ≡ length room₀) × Midst live runs₀ undo₀ room₀ cells₀ c₀ runs undo room cells c
+Inv-loop σ live runs₀ undo₀ cells₀ room₀ c₀ runs undo cells room c = Small c × (length runs ≡ length runs₀) × (length undo ≡ length undo₀) × (length cells ≡ length cells₀) × (length room ≡ length room₀) × Midst σ live runs₀ undo₀ room₀ cells₀ c₀ runs undo room cells c
 
 abbrev μ-loop : tie.MeasureT-loop
-μ-loop live runs₀ undo₀ cells₀ room₀ c₀ runs undo cells room c = c .waiting
+μ-loop σ live runs₀ undo₀ cells₀ room₀ c₀ runs undo cells room c = c .waiting
 
 -- src/lib.rt:303:5
 loop-holds : tie.Need-loop-holds Inv-loop μ-loop
-loop-holds c = (c .before .before .before .before .before .pre, refl, refl, refl, refl, midst-start (c .before .before .before .before .before .args .live .now) (c .before .before .before .before .before .args .runs .now) (c .before .before .before .before .before .args .undo .now) (c .before .before .before .before .before .args .room .now) (c .before .before .before .before .before .args .cells .now) (c .before .before .before .before .before .args .from))
+loop-holds c = (c .before .before .before .before .before .pre, refl, refl, refl, refl, midst-start (c .before .before .before .before .before .args .scheme) (c .before .before .before .before .before .args .live .now) (c .before .before .before .before .before .args .runs .now) (c .before .before .before .before .before .args .undo .now) (c .before .before .before .before .before .args .room .now) (c .before .before .before .before .before .args .cells .now) (c .before .before .before .before .before .args .from))
 
 -- src/lib.rt:304:13
 may-take-requires : tie.Need-may-take-requires Inv-loop μ-loop
@@ -48,12 +48,12 @@ same-length-4 c = c .before .before .before .before .before .loop .inv .4
 returns : tie.Need-returns Inv-loop μ-loop
 returns c = let a = c .before .before .before .before .before .before .before .before .before .before .before .args in
     let l = c .before .before .before .before .before .loop in
-    (l .inv .0, midst-end (a .live .now) (a .runs .now) (a .undo .now) (a .room .now) (a .cells .now) (a .from) (l .runs) (l .undo) (l .room) (l .cells) (l .c) (l .inv .5) (inr (sym (c .before .may-take .ensures) ∙ not-true (c .before .may-take .result) (c .if2 .taken))))
+    (l .inv .0, midst-end (a .scheme) (a .live .now) (a .runs .now) (a .undo .now) (a .room .now) (a .cells .now) (a .from) (l .runs) (l .undo) (l .room) (l .cells) (l .c) (l .inv .5) (inr (sym (c .before .may-take .ensures) ∙ not-true (c .before .may-take .result) (c .if2 .taken))))
 
 -- src/lib.rt:307:9
 turn-requires : tie.Need-turn-requires Inv-loop μ-loop
 turn-requires c κs = let l = c .before .before .before .before .before .before .before .before .before .loop in
-    (l .inv .0, (c .before .before .before .before .before .before .before .if1 .taken, room-under (l .runs) (l .c .uncommitted) (sym (c .before .before .before .before .before .may-take .ensures) ∙ not-false (c .before .before .before .before .before .may-take .result) (c .before .before .before .before .if2 .left))))
+    (l .inv .0, (c .before .before .before .before .before .before .before .if1 .taken, room-under (c .before .before .before .before .before .before .before .before .before .before .before .before .before .before .before .args .scheme) (l .runs) (l .c .uncommitted) (sym (c .before .before .before .before .before .may-take .ensures) ∙ not-false (c .before .before .before .before .before .may-take .result) (c .before .before .before .before .if2 .left))))
 
 -- src/lib.rt:303:5
 loop-less : tie.Need-loop-less Inv-loop μ-loop
@@ -69,7 +69,7 @@ loop-again c = let a = c .before .before .before .before .before .before .before
       t .kept .1 .1 .0 ∙ l .inv .2,
       t .kept .1 .1 .1 .0 ∙ l .inv .3,
       t .kept .1 .1 .1 .1 .0 ∙ l .inv .4,
-      midst-turn (a .live .now) (a .runs .now) (a .undo .now) (a .room .now) (a .cells .now) (a .from) (l .runs) (l .undo) (l .room) (l .cells) (l .c) (l .inv .5) (c .before .before .before .before .before .before .before .before .before .before .before .before .before .before .before .before .if1 .taken)
+      midst-turn (a .scheme) (a .live .now) (a .runs .now) (a .undo .now) (a .room .now) (a .cells .now) (a .from) (l .runs) (l .undo) (l .room) (l .cells) (l .c) (l .inv .5) (c .before .before .before .before .before .before .before .before .before .before .before .before .before .before .before .before .if1 .taken)
           (sym (c .before .before .before .before .before .before .before .before .before .before .before .before .before .before .may-take .ensures) ∙ not-false (c .before .before .before .before .before .before .before .before .before .before .before .before .before .before .may-take .result) (c .before .before .before .before .before .before .before .before .before .before .before .before .before .if2 .left)) (t .last .1 .0) (t .last .1 .1 .0) (t .last .1 .1 .1 .1 .0) (t .last .1 .1 .1 .0) (t .result) (t .ensures .1 .1),
     )
 
@@ -93,7 +93,7 @@ same-length-8 c = c .before .before .loop .inv .4
 returns-2 : tie.Need-returns-2 Inv-loop μ-loop
 returns-2 c = let a = c .before .before .before .before .before .before .before .before .args in
     let l = c .before .before .loop in
-    (l .inv .0, midst-end (a .live .now) (a .runs .now) (a .undo .now) (a .room .now) (a .cells .now) (a .from) (l .runs) (l .undo) (l .room) (l .cells) (l .c) (l .inv .5) (inl (omega (arith, c .if1 .left))))
+    (l .inv .0, midst-end (a .scheme) (a .live .now) (a .runs .now) (a .undo .now) (a .room .now) (a .cells .now) (a .from) (l .runs) (l .undo) (l .room) (l .cells) (l .c) (l .inv .5) (inl (omega (arith, c .if1 .left))))
 
 pub drain-spec : {M : Type 1} → statement M
 drain-spec =
