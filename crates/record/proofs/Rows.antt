@@ -16,51 +16,30 @@ use Rattle.operations.proofs.Turns.{noOp, length-padded}
 use Rattle.record.specs.Words.{opsWords, rowWords}
 use Rattle.record.specs.View.{opAt, fragmentAt, numbersFrom, zeros}
 
--- one turn of laying
-pub lay-turn : (row row′ words all : List ℕ) (at n i w : ℕ) → i < n → w ≡ getD words i 0 → row′ ≡ set row (at + i) w → sets row (at + i) (numbersFrom words i (n - i)) ≡ all
-    → sets row′ (at + (i + 1)) (numbersFrom words (i + 1) (n - (i + 1))) ≡ all
+-- one turn of laying, from a place of the words on; its start and its end
+pub lay-turn : (row row′ words all : List ℕ) (at from n i w : ℕ) → i < n → w ≡ getD words (from + i) 0 → row′ ≡ set row (at + i) w → sets row (at + i) (numbersFrom words (from + i) (n - i)) ≡ all
+    → sets row′ (at + (i + 1)) (numbersFrom words (from + (i + 1)) (n - (i + 1))) ≡ all
 unfolding numbersFrom
-lay-turn row row′ words all at n i w h ew er inv =
-    let e : n - i ≡ suc (n - (i + 1)) = omega arith in
-    let p : at + (i + 1) ≡ suc (at + i) = omega arith in
-    ap (λ (x : List ℕ). sets x (at + (i + 1)) (numbersFrom words (i + 1) (n - (i + 1)))) (er ∙ ap (set row (at + i)) ew)
-    ∙ ap (λ (x : ℕ). sets (set row (at + i) (getD words i 0)) x (numbersFrom words (i + 1) (n - (i + 1)))) p
-    ∙ ap (λ (x : ℕ). sets row (at + i) (numbersFrom words i x)) (sym e) ∙ inv
-
-pub lay-start : (row words : List ℕ) (at n : ℕ) → sets row (at + 0) (numbersFrom words 0 (n - 0)) ≡ sets row at (numbersFrom words 0 n)
-lay-start row words at n =
-    let a : at + 0 ≡ at = omega arith in
-    let b : n - 0 ≡ n = omega arith in
-    λ j. sets row (a j) (numbersFrom words 0 (b j))
-
--- the same from a place of the words on
-pub lay-from-turn : (row words all : List ℕ) (at from n i : ℕ) → i < n → sets row (at + i) (numbersFrom words (from + i) (n - i)) ≡ all
-    → sets (set row (at + i) (getD words (from + i) 0)) (at + (i + 1)) (numbersFrom words (from + (i + 1)) (n - (i + 1))) ≡ all
-unfolding numbersFrom
-lay-from-turn row words all at from n i h inv =
+lay-turn row row′ words all at from n i w h ew er inv =
     let e : n - i ≡ suc (n - (i + 1)) = omega arith in
     let p : at + (i + 1) ≡ suc (at + i) = omega arith in
     let q : from + (i + 1) ≡ from + i + 1 = omega arith in
-    (λ j. sets (set row (at + i) (getD words (from + i) 0)) (p j) (numbersFrom words (q j) (n - (i + 1)))) ∙ ap (λ (x : ℕ). sets row (at + i) (numbersFrom words (from + i) x)) (sym e) ∙ inv
+    ap (λ (x : List ℕ). sets x (at + (i + 1)) (numbersFrom words (from + (i + 1)) (n - (i + 1)))) (er ∙ ap (set row (at + i)) ew)
+    ∙ (λ j. sets (set row (at + i) (getD words (from + i) 0)) (p j) (numbersFrom words (q j) (n - (i + 1))))
+    ∙ ap (λ (x : ℕ). sets row (at + i) (numbersFrom words (from + i) x)) (sym e) ∙ inv
 
-pub lay-from-start : (row words : List ℕ) (at from n : ℕ) → sets row (at + 0) (numbersFrom words (from + 0) (n - 0)) ≡ sets row at (numbersFrom words from n)
-lay-from-start row words at from n =
+pub lay-start : (row words : List ℕ) (at from n : ℕ) → sets row (at + 0) (numbersFrom words (from + 0) (n - 0)) ≡ sets row at (numbersFrom words from n)
+lay-start row words at from n =
     let a : at + 0 ≡ at = omega arith in
     let f : from + 0 ≡ from = omega arith in
     let b : n - 0 ≡ n = omega arith in
     λ j. sets row (a j) (numbersFrom words (f j) (b j))
 
-pub lay-from-end : (row words all : List ℕ) (at from n i : ℕ) → n ≤ i → sets row (at + i) (numbersFrom words (from + i) (n - i)) ≡ all → row ≡ all
+pub lay-end : (row words all : List ℕ) (at from n i : ℕ) → n ≤ i → sets row (at + i) (numbersFrom words (from + i) (n - i)) ≡ all → row ≡ all
 unfolding numbersFrom
-lay-from-end row words all at from n i h inv =
+lay-end row words all at from n i h inv =
     let e : n - i ≡ 0 = omega arith in
     sym (ap (λ (x : ℕ). sets row (at + i) (numbersFrom words (from + i) x)) e) ∙ inv
-
-pub lay-end : (row words all : List ℕ) (at n i : ℕ) → n ≤ i → sets row (at + i) (numbersFrom words i (n - i)) ≡ all → row ≡ all
-unfolding numbersFrom
-lay-end row words all at n i h inv =
-    let e : n - i ≡ 0 = omega arith in
-    sym (ap (λ (x : ℕ). sets row (at + i) (numbersFrom words i x)) e) ∙ inv
 
 -- reading what a row holds
 
@@ -316,31 +295,22 @@ shift-padded n g l k m e em h =
         let z : 0 + x ≡ x = omega arith in
         getD-sets-in row new x (omega (arith, ln, whole)) (omega (arith, ln)) ∙ ap (λ (q : List ℕ). getD q x 0) (numbers-past n g l k m e) ∙ getD-numbers l 0 m x y ∙ ap (λ (q : ℕ). getD l q 0) z
 
--- one turn of clearing, and its end
-pub record Cleared (row₀ row : List ℕ) (n i : ℕ) : Type 0 where
-  pub size : length row ≡ length row₀
-  pub below : (x : ℕ) → x < n → getD row x 0 ≡ getD row₀ x 0
-  pub past : (x : ℕ) → n ≤ x → x < i → getD row x 0 ≡ 0
-
-pub clear-turn : (row₀ row : List ℕ) (n i : ℕ) → n ≤ i → i < length row → Cleared row₀ row n i → Cleared row₀ (set row i 0) n (i + 1)
-clear-turn row₀ row n i h k c = record {
-  size = length-set row i 0 ∙ c .size;
-  below = λ x hx. getD-set-other row i x 0 0 (λ e. omega arith) ∙ c .below x hx;
-  past = λ x hn hx. go x hn hx (eqb x i) refl;
-}
+-- a row cleared from place n on
+pub cleared : (row : List ℕ) (n start : ℕ) → start ≡ min n (length row) → sets row start (zeros (length row - start)) ≡ padded (length row) (take n row)
+cleared row n start e =
+    padded-of (length row) (sets row start (zeros (length row - start))) (take n row) (length-sets row start (zeros (length row - start))) (omega (arith, length-take n row)) (λ x hx. go x hx (ltb x n) refl)
   where
-    go : (x : ℕ) → n ≤ x → x < i + 1 → (b : Bool) → eqb x i ≡ b → getD (set row i 0) x 0 ≡ 0
-    go x hn hx true e = let y : x ≡ i = eqb-true x i e in ap (λ (q : ℕ). getD (set row i 0) q 0) y ∙ getD-set-same row i 0 0 k
-    go x hn hx false e = getD-set-other row i x 0 0 (eqb-false x i e) ∙ c .past x hn (let z : x ≡ i → ⊥ = eqb-false x i e in omega arith)
+    lz : length (zeros (length row - start)) ≡ length row - start
+    lz = length-replicate (length row - start) 0
 
-pub clear-end : (row₀ row : List ℕ) (n i : ℕ) → length row ≤ i → Cleared row₀ row n i → row ≡ padded (length row₀) (take n row₀)
-clear-end row₀ row n i h c = padded-of (length row₀) row (take n row₀) (c .size) (omega (arith, length-take n row₀)) (λ x hx. go x hx (ltb x n) refl)
-  where
-    go : (x : ℕ) → x < length row₀ → (b : Bool) → ltb x n ≡ b → getD row x 0 ≡ getD (take n row₀) x 0
-    go x hx true e = let y : x < n = ltb-true x n e in c .below x y ∙ sym (getD-take n row₀ x 0 y)
-    go x hx false e =
-        let y : n ≤ x = ltb-false x n e in
-        c .past x y (omega (arith, c .size)) ∙ sym (List·getD-eq-default (take n row₀) 0 {n = x} (omega (arith, length-take n row₀)))
+    go : (x : ℕ) → x < length row → (b : Bool) → ltb x n ≡ b → getD (sets row start (zeros (length row - start))) x 0 ≡ getD (take n row) x 0
+    go x hx true t =
+        let y : x < n = ltb-true x n t in
+        getD-sets-before row start (zeros (length row - start)) x (omega arith) ∙ sym (getD-take n row x 0 y)
+    go x hx false t =
+        let y : n ≤ x = ltb-false x n t in
+        let z : getD (zeros (length row - start)) (x - start) 0 ≡ 0 = getD-replicate (length row - start) (x - start) 0 0 (omega arith) in
+        getD-sets-at row start (zeros (length row - start)) x (omega arith) (omega (arith, lz)) hx ∙ z ∙ sym (List·getD-eq-default (take n row) 0 {n = x} (omega (arith, length-take n row)))
 
 -- Rows of operations
 

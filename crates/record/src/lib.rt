@@ -230,9 +230,7 @@ pub fn shift(row: &mut [u32], k: u32, m: u32)
 pub fn clear(row: &mut [u32], n: u32)
     ensures { λ _. ⌜ now (row .exit) ≡ padded (length (now (row .entry))) (take n (now (row .entry))) ⌝ }
 {
-    let mut i = n as usize;
-    while i < row.len() {
-        row[i] = 0;
-        i = i + 1;
-    }
+    let len = row.len();
+    let start = least(n as usize, len);
+    blank(row, start, len);
 }

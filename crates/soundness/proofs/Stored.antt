@@ -14,6 +14,7 @@ use Rattle.model.specs.declared.Op.{Op}
 use Rattle.record.specs.View.{opAt, fragmentAt, numbersFrom}
 use Rattle.record.proofs.Rows.{numbers-snoc}
 use Rattle.soundness.specs.Groups.{isZero, opsFrom, storableOp, kindOk}
+use Rattle.soundness.proofs.Turns.{on, off}
 
 -- the eight operations of a fragment, by threes
 row-ops : (l : List ℕ) (at : ℕ) → fragmentAt l at .row ≡ opsFrom l (at + 4) 8
@@ -128,10 +129,10 @@ module _ (ct : ℕ) (l : List ℕ) (b left : ℕ) (whole : Bool) (inv : every (s
     used-next = let e : suc (left - 1) ≡ left = omega arith in ap (λ (n : ℕ). every (storableOp ct) (opsFrom l b n)) e ∙ inv
 
     pub used-on : storableOp ct (opAt l b) ≡ true → every (storableOp ct) (opsFrom l (b + 3) (left - 1)) ≡ whole
-    used-on t = ap (λ (x : Bool). x && every (storableOp ct) (opsFrom l (b + 3) (left - 1))) (sym t) ∙ used-next
+    used-on t = on (storableOp ct (opAt l b)) _ whole used-next t
 
     pub used-off : storableOp ct (opAt l b) ≡ false → false ≡ whole
-    used-off t = ap (λ (x : Bool). x && every (storableOp ct) (opsFrom l (b + 3) (left - 1))) (sym t) ∙ used-next
+    used-off t = off (storableOp ct (opAt l b)) _ whole used-next t
 
   pub used-end : left ≤ 0 → true ≡ whole
   unfolding opsFrom

@@ -10,10 +10,10 @@ use lib.ListN.{getD}
 use Rattle.operations.specs.Laid.{entriesOf}
 use Rattle.soundness.specs.Groups.{rowOk, liveFrom, nextOk, frontOk, behindFrom, membersOk, totalFrom, undoOk}
 
-on : (a r w : Bool) → (a && r) ≡ w → a ≡ true → r ≡ w
+pub on : (a r w : Bool) → (a && r) ≡ w → a ≡ true → r ≡ w
 on a r w h e = ap (λ (x : Bool). x && r) (sym e) ∙ h
 
-off : (a r w : Bool) → (a && r) ≡ w → a ≡ false → false ≡ w
+pub off : (a r w : Bool) → (a && r) ≡ w → a ≡ false → false ≡ w
 off a r w h e = ap (λ (x : Bool). x && r) (sym e) ∙ h
 
 module _ (largest cells : ℕ) (live : List ℕ) (b left low : ℕ) (whole : Bool) (inv : liveFrom largest cells live b left low ≡ whole) where

@@ -4,7 +4,7 @@ use mathlib.Core.Path.{_≡_, refl, ap, _∙_}
 use lib.ListN.{length, length-set}
 use lib.Seq.{sets}
 use Rattle.record.specs.View.{numbersFrom}
-use Rattle.record.proofs.Rows.{lay-from-turn, lay-from-start, lay-from-end}
+use Rattle.record.proofs.Rows.{lay-turn, lay-start, lay-end}
 use borrow.Author.Needs.{needs}
 use Rattle.record.proofs.lay_in.Statement.{statement}
 use Rattle.record.proofs.lay_in.Tie as tie
@@ -19,7 +19,7 @@ abbrev μ-loop : tie.MeasureT-loop
 
 -- src/lib.rt:168:5
 loop-holds : tie.Need-loop-holds Inv-loop μ-loop
-loop-holds c = (omega arith, refl, lay-from-start (c .args .row .now) (c .args .words .now) (c .args .at) (c .args .from) (c .args .n))
+loop-holds c = (omega arith, refl, lay-start (c .args .row .now) (c .args .words .now) (c .args .at) (c .args .from) (c .args .n))
 
 -- src/lib.rt:169:17
 add-w : tie.Need-add-w Inv-loop μ-loop
@@ -57,7 +57,7 @@ loop-less c = search needs
 loop-again : tie.Need-loop-again Inv-loop μ-loop
 loop-again c = let l = c .before .before .loop in
     let a = c .before .before .before .args in
-    (omega arith, length-set (l .row) (a .at + l .i) _ ∙ l .inv .1, lay-from-turn (l .row) (a .words .now) _ (a .at) (a .from) (a .n) (l .i) (c .before .loop-test .taken) (l .inv .2))
+    (omega arith, length-set (l .row) (a .at + l .i) _ ∙ l .inv .1, lay-turn (l .row) _ (a .words .now) _ (a .at) (a .from) (a .n) (l .i) _ (c .before .loop-test .taken) refl refl (l .inv .2))
 
 -- src/lib.rt:163:1
 same-length : tie.Need-same-length Inv-loop μ-loop
@@ -67,7 +67,7 @@ same-length c = c .before .loop .inv .1
 returns : tie.Need-returns Inv-loop μ-loop
 returns c = let l = c .before .loop in
     let a = c .before .before .args in
-    lay-from-end (l .row) (a .words .now) _ (a .at) (a .from) (a .n) (l .i) (c .loop-test .left) (l .inv .2)
+    lay-end (l .row) (a .words .now) _ (a .at) (a .from) (a .n) (l .i) (c .loop-test .left) (l .inv .2)
 
 pub lay-in-spec : {M : Type 1} → statement M
 lay-in-spec =

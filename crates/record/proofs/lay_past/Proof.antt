@@ -1,7 +1,7 @@
 use Prim.Native.Nat.{ℕ, _+_, _-_, _≤_, _<_}
 use native.Mathlib.Omega.{arith}
 use mathlib.Core.Path.{_≡_, refl, sym, ap, _∙_}
-use lib.ListN.{length}
+use lib.ListN.{length, getD}
 use lib.Seq.{sets}
 use Rattle.record.specs.View.{numbersFrom}
 use Rattle.record.proofs.Rows.{lay-turn, lay-start, lay-end}
@@ -14,14 +14,14 @@ use Rattle.operations.proofs.number_at.Reads as number-at-reads
 use Rattle.operations.proofs.put_at.Reads as put-at-reads
 
 abbrev Inv-loop : tie.InvT-loop
-Inv-loop row₀ at words n i₀ row i = (i ≤ n) × (length row ≡ length row₀) × (sets row (at + i) (numbersFrom words i (n - i)) ≡ sets row₀ at (numbersFrom words 0 n))
+Inv-loop row₀ at words n i₀ row i = (i ≤ n) × (length row ≡ length row₀) × (sets row (at + i) (numbersFrom words (0 + i) (n - i)) ≡ sets row₀ at (numbersFrom words 0 n))
 
 abbrev μ-loop : tie.MeasureT-loop
 μ-loop row₀ at words n i₀ row i = n - i
 
 -- src/lib.rt:116:5
 loop-holds : tie.Need-loop-holds Inv-loop μ-loop
-loop-holds c = (search needs, refl, lay-start (c .before .before .args .row .now) (c .before .before .args .words .now) (c .before .before .args .at) (c .before .before .args .n))
+loop-holds c = (search needs, refl, lay-start (c .before .before .args .row .now) (c .before .before .args .words .now) (c .before .before .args .at) 0 (c .before .before .args .n))
 
 -- src/lib.rt:117:13
 number-at-requires : tie.Need-number-at-requires Inv-loop μ-loop
@@ -47,7 +47,8 @@ loop-less c = search needs
 loop-again : tie.Need-loop-again Inv-loop μ-loop
 loop-again c = let l = c .before .before .before .before .before .before .loop in
     let a = c .before .before .before .before .before .before .before .before .before .args in
-    (omega arith, c .before .before .put-at .kept .0 ∙ l .inv .1, lay-turn (l .row) (c .before .before .put-at .last .0) (a .words .now) _ (a .at) (a .n) (l .i) _ (c .before .before .before .before .before .loop-test .taken) (c .before .before .before .before .number-at .ensures) (c .before .before .put-at .ensures) (l .inv .2))
+    let z : l .i ≡ 0 + l .i = omega arith in
+    (omega arith, c .before .before .put-at .kept .0 ∙ l .inv .1, lay-turn (l .row) (c .before .before .put-at .last .0) (a .words .now) _ (a .at) 0 (a .n) (l .i) _ (c .before .before .before .before .before .loop-test .taken) (c .before .before .before .before .number-at .ensures ∙ ap (λ (k : ℕ). getD (a .words .now) k 0) z) (c .before .before .put-at .ensures) (l .inv .2))
 
 -- src/lib.rt:112:1
 same-length : tie.Need-same-length Inv-loop μ-loop
@@ -57,7 +58,7 @@ same-length c = c .before .loop .inv .1
 returns : tie.Need-returns Inv-loop μ-loop
 returns c = let l = c .before .loop in
     let a = c .before .before .before .before .args in
-    lay-end (l .row) (a .words .now) _ (a .at) (a .n) (l .i) (c .loop-test .left) (l .inv .2)
+    lay-end (l .row) (a .words .now) _ (a .at) 0 (a .n) (l .i) (c .loop-test .left) (l .inv .2)
 
 pub lay-past-spec : {M : Type 1} → statement M
 lay-past-spec =
