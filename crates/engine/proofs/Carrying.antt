@@ -103,7 +103,7 @@ words-back a rest h = λ i. answer (a .number) (a .dependence) (record { place =
         ∙ getD-take 8 (ns ++ replicate 8 0) k 0 (omega arith) ∙ List·getD-append ns (replicate 8 0) 0 k hk
         ∙ (let z : k ≡ 0 + k = omega arith in ap (λ (x : ℕ). getD ns x 0) z)
 
-abbrev noAnswer : Answer
+abbrev pub noAnswer : Answer
 noAnswer = answer 0 0 (record { place = 0; numbers = [] })
 
 -- what a filled room holds
@@ -139,7 +139,7 @@ answer-sent r c i h k = subst (λ (a : Answer). List·Memᴰ a (step (view r) c 
 -- Runs
 
 -- the run of the model that a run on records means
-abbrev meant : RecordRun → Run
+abbrev pub meant : RecordRun → Run
 meant r = record { engine = view (r .kept); cells = r .cells; log = r .log }
 
 pub onward-same : (r : RecordRun) (c : Call) → Words (c .event) → meant (onwardR r c) ≡ onward (meant r) c
@@ -179,10 +179,10 @@ fresh-same cs = λ i. record { engine = view-pack (start (length cs) .engine) (s
 
 module _ (cs : Cells) where
   -- after calls from a fresh start
-  reached : (calls : List Call) → AllWords calls → meant (runsR (freshR cs) calls) ≡ runs (fresh cs) calls
+  pub reached : (calls : List Call) → AllWords calls → meant (runsR (freshR cs) calls) ≡ runs (fresh cs) calls
   reached calls w = runs-same (freshR cs) calls w ∙ ap (λ (x : Run). runs x calls) (fresh-same cs)
 
-  lent : (calls : List Call) → AllWords calls → AllLendR (freshR cs) calls → AllLend (fresh cs) calls
+  pub lent : (calls : List Call) → AllWords calls → AllLendR (freshR cs) calls → AllLend (fresh cs) calls
   lent calls w l = subst (λ (x : Run). AllLend x calls) (fresh-same cs) (all-lend (freshR cs) calls w l)
 
   -- what the model has of a run

@@ -2,6 +2,7 @@ pub mod Unique
 pub mod Fine
 pub mod Viewed
 pub mod Carrying
+pub mod Agreeing
 pub mod Reading
 pub mod Rooms
 pub mod Placing

@@ -1,4 +1,5 @@
 pub mod Called
 pub mod Carried
+pub mod Agreed
 pub mod Work
 pub mod Ready

@@ -4,20 +4,20 @@ use Prim.Native.Nat.{ℕ, zero, suc, _+_, _≤_, _<_}
 use native.Mathlib.Omega.{arith}
 use borrow.Author.Tests.{ne-eqb}
 use mathlib.Core.Path.{_≡_, refl, sym, ap, _∙_, subst}
-use mathlib.Core.Bool.{Bool, true, false, true≢false}
+use mathlib.Core.Bool.{Bool, true, false, _||_, true≢false}
 use mathlib.Core.Logic.{_⊎_, inl, inr}
 use mathlib.Core.List.{List, [], _∷_, _++_, map, append-assoc, append-nil, List·Memᴰ, List·Memᴰ·not-nil, List·Memᴰ·cases-cons, nil≢cons, head-eq-of-cons-eq, tail-eq-of-cons-eq, Memᴰ·append-left, Memᴰ·append-right}
 use lib.Dec.{eqb}
-use lib.ListN.{length}
+use lib.ListN.{length, length-append}
 use Rattle.model.specs.Operations.{Cells, Outcome, multi, last, operations, Trial, Done, Broke, trial, told}
-use Rattle.model.specs.Transactions.{State, Running, Finished, Failed, finished, Reply, Held, Sent, NoReply, Uncommitted, Waiting, undoList, Answer}
+use Rattle.model.specs.Transactions.{State, Running, Finished, Failed, finished, Reply, Held, Sent, NoReply, holds, Uncommitted, Waiting, undoList, Answer}
 use Rattle.model.specs.Steps.{undone, Ran, run, stateAfter, begun, again, sent, requeued, lastFinished, nearest}
 use Rattle.model.specs.Serial.{Tx, Decision, Open, next, through, attempt, orElse, effect, serial}
-use Rattle.model.specs.Demand.{Log, Standing, Settles, Gone, Undecided, standing, settledOf, extended}
+use Rattle.model.specs.Demand.{Log, Standing, Settles, Gone, Undecided, standing, settledOf, liveOf, extended}
 use Rattle.model.specs.declared.Fragment.{Fragment}
 use Rattle.model.specs.declared.Undo.{Undo}
 use Rattle.model.proofs.Undoing.{Agree, run-agrees, undone-append, Placed, trial-placed}
-use Rattle.model.proofs.Logs.{Closed}
+use Rattle.model.proofs.Logs.{Closed, settled-append, live-append}
 
 -- what the log has of a waiting one, and of an uncommitted one whose fragments after the first are fs
 abbrev pub asTx : Waiting → Tx
@@ -36,6 +36,15 @@ abbrev pub Fine : Trial → Type 0
 Fine (Done cs ns) = Unit {0}
 Fine (Broke p) = ⊥
 
+-- the last of a transaction's fragments
+abbrev pub latest : Fragment → List Fragment → Fragment
+latest f [] = f
+latest f (g ∷ gs) = latest g gs
+
+pub latest-snoc : (f : Fragment) (fs : List Fragment) (g : Fragment) → latest f (fs ++ (g ∷ [])) ≡ g
+latest-snoc f [] g = refl
+latest-snoc f (x ∷ fs) g = latest-snoc x fs g
+
 -- u, whose later fragments are fs, ran at b
 pub record Entry (b : Cells) (fs : List Fragment) (u : Uncommitted) : Type 0 where
   -- its entries take its result back
@@ -44,6 +53,11 @@ pub record Entry (b : Cells) (fs : List Fragment) (u : Uncommitted) : Type 0 whe
   pub fine : finished (u .state) ≡ false → Fine (attempt (txOf fs u) b)
   -- a held answer is what its fragment gives there
   pub says : (o : Outcome) → u .reply ≡ Held o → o ≡ told (attempt (txOf fs u) b)
+  -- its state and its count of runs are what its fragments make them
+  pub state : u .state ≡ stateAfter (latest (u .first) fs) (told (attempt (txOf fs u) b))
+  pub ran : u .ran ≡ suc (length fs)
+  -- a single's answer is held
+  pub held : (multi (u .first) || holds (u .reply)) ≡ true
 
 abbrev pub Chain : Cells → List Fragment → List Uncommitted → Cells → Type 0
 Chain b fs [] cs = b ≡ cs
@@ -166,12 +180,16 @@ fine-of f (Broke q) p h =
 -- a fragment f run to r, where u's entries led back to b: what u is afterwards, if f by itself came to t
 entry-of : (b : Cells) (fs : List Fragment) (u : Uncommitted) (f : Fragment) (r : Ran) (t : Trial) → Agree b r t → Placed t → attempt (txOf fs u) b ≡ t
     → u .undo ≡ r .undo → u .state ≡ stateAfter f (r .outcome) → ((o : Outcome) → u .reply ≡ Held o → o ≡ r .outcome)
+    → latest (u .first) fs ≡ f → u .ran ≡ suc (length fs) → (multi (u .first) || holds (u .reply)) ≡ true
     → Entry b fs u × (effect (txOf fs u) b ≡ r .cells)
-entry-of b fs u f r t a pl e un st re = (
+entry-of b fs u f r t a pl e un st re la rn hd = (
   record {
     back = ap (undone (u .undo)) stands ∙ ap (λ (x : List Undo). undone x (r .cells)) un ∙ a .back;
     fine = λ h. subst Fine (sym e) (fine-of f t pl (ap (λ (x : Outcome). finished (stateAfter f x)) (sym (a .tells)) ∙ ap finished (sym st) ∙ h));
     says = λ o h. re o h ∙ a .tells ∙ ap told (sym e);
+    state = st ∙ (λ i. stateAfter (sym la i) ((a .tells ∙ ap told (sym e)) i));
+    ran = rn;
+    held = hd;
   },
   stands,
 )
@@ -198,11 +216,14 @@ unfolding undone
 begun-agrees f cs = run-agrees cs 1 (operations f) cs [] [] refl
 
 -- the first waiting one, run
-pub begun-entry : (w : Waiting) (cs : Cells) (a : Reply) → ((o : Outcome) → a ≡ Held o → o ≡ run (w .fragment) cs [] .outcome)
+pub begun-stands : (w : Waiting) (cs : Cells) → effect (asTx w) cs ≡ run (w .fragment) cs [] .cells
+begun-stands w cs = sym (begun-agrees (w .fragment) cs .stands)
+
+pub begun-entry : (w : Waiting) (cs : Cells) (a : Reply) → ((o : Outcome) → a ≡ Held o → o ≡ run (w .fragment) cs [] .outcome) → (multi (w .fragment) || holds a) ≡ true
     → Entry cs [] (begun w (run (w .fragment) cs []) a) × (effect (asTx w) cs ≡ run (w .fragment) cs [] .cells)
-begun-entry w cs a h =
+begun-entry w cs a h hd =
     entry-of cs [] (begun w (run (w .fragment) cs []) a) (w .fragment) (run (w .fragment) cs []) (trial (w .fragment) cs) (begun-agrees (w .fragment) cs)
-    (trial-placed 1 (operations (w .fragment)) cs [] (omega arith)) refl refl refl h
+    (trial-placed 1 (operations (w .fragment)) cs [] (omega arith)) refl refl refl h refl refl hd
 
 through-snoc : (r : Trial) (fs : List Fragment) (f : Fragment) → through r (fs ++ (f ∷ [])) ≡ next (through r fs) f
 through-snoc r [] f = refl
@@ -214,10 +235,12 @@ next-fine b (Broke p) f h = absurd h
 
 -- another fragment of the front
 pub again-entry : (b : Cells) (fs : List Fragment) (u : Uncommitted) (f : Fragment) (cs : Cells) → Entry b fs u → effect (txOf fs u) b ≡ cs → finished (u .state) ≡ false
+    → multi (u .first) ≡ true
     → (Entry b (fs ++ (f ∷ [])) (again u f (run f cs (u .undo))) × (effect (txOf (fs ++ (f ∷ [])) u) b ≡ run f cs (u .undo) .cells))
     × (run f cs (u .undo) .outcome ≡ told (attempt (txOf (fs ++ (f ∷ [])) u) b))
-again-entry b fs u f cs e h k = (
-  entry-of b (fs ++ (f ∷ [])) (again u f (run f cs (u .undo))) f (run f cs (u .undo)) (trial f cs) agree (trial-placed 1 (operations f) cs [] (omega arith)) same refl refl (λ o x. sent-is-not-held o _ x),
+again-entry b fs u f cs e h k m = (
+  entry-of b (fs ++ (f ∷ [])) (again u f (run f cs (u .undo))) f (run f cs (u .undo)) (trial f cs) agree (trial-placed 1 (operations f) cs [] (omega arith)) same refl refl (λ o x. sent-is-not-held o _ x)
+      (latest-snoc (u .first) fs f) (omega (arith, e .ran, length-append fs (f ∷ []))) (ap (λ (x : Bool). x || false) m),
   agree .tells ∙ ap told (sym same),
 )
   where
@@ -315,3 +338,27 @@ module _ (k : ℕ) (b : Cells) (fs : List Fragment) (u : Uncommitted) (us : List
 -- an answer pends only behind a front
 pub pend-alone : (b : Cells) (fs : List Fragment) (u : Uncommitted) (a : Answer) → (a .dependence ≡ 0 → ⊥) → Pend 0 b fs (u ∷ []) a → ⊥
 pend-alone b fs u a h p = pend-cases 0 b fs u [] a p h (λ A v B q n o t. nothing-pends A v B q)
+
+-- the log of a whole state: nothing live and all past, or split at the front
+pub settled-is : (cs₀ : Cells) (l : Log) (cs : Cells) (us : List Uncommitted) (ws : List Waiting) (as′ : List Answer) (i : Inv cs₀ l cs us ws as′) → (us ≡ [] → ws ≡ [])
+    → (settledOf l ≡ settledOf (i .past)) × (liveOf l ≡ lives (i .more) us ++ map asTx ws)
+settled-is cs₀ l cs [] ws as′ i idle = (
+  ap settledOf all,
+  ap liveOf (i .split ∙ ap (λ (x : List Waiting). i .past ++ map asTx x) (idle refl)) ∙ live-append (i .past) [] (i .closed) ∙ sym (ap (map asTx) (idle refl)),
+)
+  where
+    all : l ≡ i .past
+    all = i .split ∙ ap (λ (x : List Waiting). i .past ++ map asTx x) (idle refl) ∙ append-nil (i .past)
+settled-is cs₀ l cs (u ∷ us) ws as′ i idle = (
+  ap settledOf (i .split) ∙ settled-append (i .past) (lives (i .more) (u ∷ us) ++ map asTx ws) (i .closed)
+      ∙ ap {B = Log} (λ (s : Standing). settledOf (i .past) ++ elim s [ Settles ↦ t ∷ settledOf (lives [] us ++ map asTx ws) | Gone ↦ settledOf (lives [] us ++ map asTx ws) | Undecided ↦ [] ]) und
+      ∙ append-nil (settledOf (i .past)),
+  ap liveOf (i .split) ∙ live-append (i .past) (lives (i .more) (u ∷ us) ++ map asTx ws) (i .closed)
+      ∙ ap {B = Log} (λ (s : Standing). elim s [ Settles ↦ liveOf (lives [] us ++ map asTx ws) | Gone ↦ liveOf (lives [] us ++ map asTx ws) | Undecided ↦ t ∷ (lives [] us ++ map asTx ws) ]) und,
+)
+  where
+    t : Tx
+    t = txOf (i .more) u
+
+    und : standing t ≡ Undecided
+    und = ap {B = Standing} (λ (b : Bool). elim b [ false ↦ Settles | true ↦ Undecided ]) (i .multi)

@@ -20,9 +20,11 @@ use Rattle.model.specs.declared.Event.{Event}
 use Rattle.model.specs.declared.Fragment.{Fragment}
 use Rattle.model.specs.declared.Scheme.{Scheme}
 use Rattle.model.proofs.Logs.{InOrder, serial-append, rises-weaken, rises-settled, rises-at, gives-at, settled-append, live-append, known-new, known-at, Grows, grows-same}
-use Rattle.model.proofs.Chain.{nearestTx, pend-multi-leaves, asTx, txOf, lives, Pend, InPast, Followed, All, all-mem, Inv, chain-cells, lives-length}
+use Rattle.model.proofs.Chain.{nearestTx, pend-multi-leaves, asTx, txOf, lives, Pend, InPast, Followed, All, all-mem, Inv, chain-cells, lives-length, settled-is}
 use Rattle.model.proofs.Draining.{Plain, nearest-low}
 use Rattle.model.proofs.Settling.{log-front, rises-log-front, Got, commit-inv, abort-inv, again-inv, new-inv, top-front, rises-front}
+use Rattle.model.specs.Schemes.{SinglesAnswered}
+use Rattle.model.proofs.Replying.{Singled, singled-none}
 use Rattle.model.proofs.Passing.{Passed, passed, took, front-or-new, front-if-known, and-if, and-unless}
 
 -- Between two calls; as′: answers that depend and were sent since the last accepted abort
@@ -33,31 +35,7 @@ pub record Whole (cs₀ : Cells) (r : Run) (as′ : List Answer) : Type 0 where
 
 -- The cells
 
--- the log of a whole state: nothing live and all past, or split at the front
-settled-is : (cs₀ : Cells) (l : Log) (cs : Cells) (us : List Uncommitted) (ws : List Waiting) (as′ : List Answer) (i : Inv cs₀ l cs us ws as′) → (us ≡ [] → ws ≡ [])
-    → (settledOf l ≡ settledOf (i .past)) × (liveOf l ≡ lives (i .more) us ++ map asTx ws)
-settled-is cs₀ l cs [] ws as′ i idle = (
-  ap settledOf all,
-  ap liveOf (i .split ∙ ap (λ (x : List Waiting). i .past ++ map asTx x) (idle refl)) ∙ live-append (i .past) [] (i .closed) ∙ sym (ap (map asTx) (idle refl)),
-)
-  where
-    all : l ≡ i .past
-    all = i .split ∙ ap (λ (x : List Waiting). i .past ++ map asTx x) (idle refl) ∙ append-nil (i .past)
-settled-is cs₀ l cs (u ∷ us) ws as′ i idle = (
-  ap settledOf (i .split) ∙ settled-append (i .past) (lives (i .more) (u ∷ us) ++ map asTx ws) (i .closed)
-      ∙ ap {B = Log} (λ (s : Standing). settledOf (i .past) ++ elim s [ Settles ↦ t ∷ settledOf (lives [] us ++ map asTx ws) | Gone ↦ settledOf (lives [] us ++ map asTx ws) | Undecided ↦ [] ]) und
-      ∙ append-nil (settledOf (i .past)),
-  ap liveOf (i .split) ∙ live-append (i .past) (lives (i .more) (u ∷ us) ++ map asTx ws) (i .closed)
-      ∙ ap {B = Log} (λ (s : Standing). elim s [ Settles ↦ liveOf (lives [] us ++ map asTx ws) | Gone ↦ liveOf (lives [] us ++ map asTx ws) | Undecided ↦ t ∷ (lives [] us ++ map asTx ws) ]) und,
-)
-  where
-    t : Tx
-    t = txOf (i .more) u
-
-    und : standing t ≡ Undecided
-    und = ap {B = Standing} (λ (b : Bool). elim b [ false ↦ Settles | true ↦ Undecided ]) (i .multi)
-
-whole-cells : (cs₀ : Cells) (r : Run) (as′ : List Answer) → Whole cs₀ r as′ → CellsHold cs₀ r
+pub whole-cells : (cs₀ : Cells) (r : Run) (as′ : List Answer) → Whole cs₀ r as′ → CellsHold cs₀ r
 whole-cells cs₀ r as′ w =
     sym (chain-cells (i .base) (i .more) us (r .cells) (i .chain))
     ∙ ap (λ (x : Log). serial x (i .base)) (sym (ap (take (length us)) (st .1) ∙ take-at (lives (i .more) us) (map asTx (r .engine .waiting)) (length us) (lives-length (i .more) us)))
@@ -77,7 +55,7 @@ numbers-live fs [] [] = refl
 numbers-live fs [] (w ∷ ws) = ap {B = List ℕ} (λ (x : List ℕ). w .number ∷ x) (numbers-live fs [] ws)
 numbers-live fs (u ∷ us) ws = ap {B = List ℕ} (λ (x : List ℕ). u .number ∷ x) (numbers-live [] us ws)
 
-whole-queue : (cs₀ : Cells) (r : Run) (as′ : List Answer) → Whole cs₀ r as′ → QueueOrder r
+pub whole-queue : (cs₀ : Cells) (r : Run) (as′ : List Answer) → Whole cs₀ r as′ → QueueOrder r
 whole-queue cs₀ r as′ w =
     numbers-live (w .inv .more) (r .engine .uncommitted) (r .engine .waiting)
     ∙ ap numbersOf (sym (settled-is cs₀ (r .log) (r .cells) (r .engine .uncommitted) (r .engine .waiting) as′ (w .inv) (w .idle) .1))
@@ -91,13 +69,13 @@ module _ (σ : Scheme) (cs₀ : Cells) (ct top : ℕ) (ws : List Waiting) (cs : 
   abbrev engineOf : List Uncommitted → Engine
   engineOf us = record { count = ct; largest = top; uncommitted = us; waiting = ws }
 
-  arrive-new : (us : List Uncommitted) (as′ : List Answer) (n : ℕ) (f : Fragment) → Inv cs₀ l cs us ws as′ → ltb top n ≡ true
+  arrive-new : (us : List Uncommitted) (as′ : List Answer) (n : ℕ) (f : Fragment) → Inv cs₀ l cs us ws as′ → (us ≡ [] → ws ≡ []) → ltb top n ≡ true
       → Got cs₀ l (logged (Arrive n f) l) (largestAfter (Arrive n f) (engineOf us)) as′ (joined σ n f cs us ws)
-  arrive-new us as′ n f i e =
+  arrive-new us as′ n f i idle e =
       got-cast cs₀ l (l ++ record { number = n; first = f; more = []; decision = Open } ∷ []) (logged (Arrive n f) l) n (elim (ltb top n) [ true ↦ n | false ↦ top ]) as′ (joined σ n f cs us ws)
       (sym (ap {B = Log} (λ (b : Bool). elim b [ true ↦ at n (extended f) l | false ↦ l ++ record { number = n; first = f; more = []; decision = Open } ∷ [] ]) (known-new 0 top n l k rises)))
       (sym (ap {B = ℕ} (λ (b : Bool). elim b [ true ↦ n | false ↦ top ]) e))
-      (new-inv σ cs₀ top l rises cs us ws as′ (record { number = n; fragment = f }) i k)
+      (new-inv σ cs₀ top l rises cs us ws as′ (record { number = n; fragment = f }) i idle k)
     where
       k : top < n
       k = ltb-true top n e
@@ -113,12 +91,12 @@ module _ (σ : Scheme) (cs₀ : Cells) (ct top : ℕ) (ws : List Waiting) (cs : 
       kn : known (u .number) l ≡ true
       kn = ap (known (u .number)) (i .split) ∙ known-at top (txOf (i .more) u) (lives [] us ++ map asTx ws) 0 (i .past) (rises-front cs₀ top l rises cs ws as′ u us i)
 
-  accept-arrive : (us : List Uncommitted) (as′ : List Answer) (c : Call) → eqb (c .event .kind) 1 ≡ true → Inv cs₀ l cs us ws as′ → Passed (engineOf us) c
+  accept-arrive : (us : List Uncommitted) (as′ : List Answer) (c : Call) → eqb (c .event .kind) 1 ≡ true → Inv cs₀ l cs us ws as′ → (us ≡ [] → ws ≡ []) → Passed (engineOf us) c
       → Got cs₀ l (logged (Arrive (c .event .number) (c .event .fragment)) l) (largestAfter (Arrive (c .event .number) (c .event .fragment)) (engineOf us)) as′
       (arrived σ (c .event .number) (c .event .fragment) cs us ws)
-  accept-arrive [] as′ c a i p =
-      arrive-new [] as′ (c .event .number) (c .event .fragment) i (front-or-new (live (c .event .number) (engineOf [])) (new (c .event .number) (engineOf [])) false (p .six) (p .seven) refl)
-  accept-arrive (u ∷ us) as′ c a i p = go (eqb (u .number) n) refl
+  accept-arrive [] as′ c a i idle p =
+      arrive-new [] as′ (c .event .number) (c .event .fragment) i idle (front-or-new (live (c .event .number) (engineOf [])) (new (c .event .number) (engineOf [])) false (p .six) (p .seven) refl)
+  accept-arrive (u ∷ us) as′ c a i idle p = go (eqb (u .number) n) refl
     where
       n : ℕ
       n = c .event .number
@@ -128,7 +106,7 @@ module _ (σ : Scheme) (cs₀ : Cells) (ct top : ℕ) (ws : List Waiting) (cs : 
 
       go : (b : Bool) → eqb (u .number) n ≡ b → Got cs₀ l (logged (Arrive n f) l) (largestAfter (Arrive n f) (engineOf (u ∷ us))) as′
           (elim b [ false ↦ joined σ n f cs (u ∷ us) ws | true ↦ continued σ f cs u us ws ])
-      go false e = arrive-new (u ∷ us) as′ n f i (front-or-new (live n (engineOf (u ∷ us))) (new n (engineOf (u ∷ us))) (eqb (u .number) n) (p .six) (p .seven) e)
+      go false e = arrive-new (u ∷ us) as′ n f i idle (front-or-new (live n (engineOf (u ∷ us))) (new n (engineOf (u ∷ us))) (eqb (u .number) n) (p .six) (p .seven) e)
       go true e = subst (λ (m : ℕ). Got cs₀ l (logged (Arrive m f) l) (largestAfter (Arrive m f) (engineOf (u ∷ us))) as′ (continued σ f cs u us ws)) (eqb-true (u .number) n e)
           (arrive-again u us as′ f i (and-if (eqb (u .number) n) (finished (u .state)) e (and-if (eqb (c .event .kind) 1) _ a (p .eight))))
 
@@ -153,9 +131,9 @@ module _ (σ : Scheme) (cs₀ : Cells) (ct top : ℕ) (ws : List Waiting) (cs : 
 
 -- One call. After an abort no answer is followed any longer.
 
-accept : (σ : Scheme) (cs₀ : Cells) (e : Engine) (cs : Cells) (l : Log) (as′ : List Answer) (c : Call) → Inv cs₀ l cs (e .uncommitted) (e .waiting) as′ → InOrder 0 (e .largest) l → Passed e c
+accept : (σ : Scheme) (cs₀ : Cells) (e : Engine) (cs : Cells) (l : Log) (as′ : List Answer) (c : Call) → Inv cs₀ l cs (e .uncommitted) (e .waiting) as′ → (e .uncommitted ≡ [] → e .waiting ≡ []) → InOrder 0 (e .largest) l → Passed e c
     → ((n : ℕ) → request (c .event) ≡ Abort n → as′ ≡ []) → Got cs₀ l (logged (request (c .event)) l) (largestAfter (request (c .event)) e) as′ (taken σ (request (c .event)) e cs)
-accept σ cs₀ e cs l as′ c i h p z = go (eqb (c .event .kind) 1) refl z
+accept σ cs₀ e cs l as′ c i idle h p z = go (eqb (c .event .kind) 1) refl z
   where
     n : ℕ
     n = c .event .number
@@ -173,20 +151,21 @@ accept σ cs₀ e cs l as′ c i h p z = go (eqb (c .event .kind) 1) refl z
     asks b = elim b [ true ↦ Arrive n (c .event .fragment) | false ↦ either (eqb (c .event .kind) 2) ]
 
     go : (b : Bool) → eqb (c .event .kind) 1 ≡ b → ((m : ℕ) → asks b ≡ Abort m → as′ ≡ []) → Got cs₀ l (logged (asks b) l) (largestAfter (asks b) e) as′ (taken σ (asks b) e cs)
-    go true a y = accept-arrive σ cs₀ (e .count) (e .largest) (e .waiting) cs l h (e .uncommitted) as′ c a i p
+    go true a y = accept-arrive σ cs₀ (e .count) (e .largest) (e .waiting) cs l h (e .uncommitted) as′ c a i idle p
     go false a y = decide a (eqb (c .event .kind) 2) y
 
 pub record Next (cs₀ : Cells) (r : Run) (c : Call) (as′ : List Answer) : Type 0 where
   pub whole : Whole cs₀ (onward r c) (as′ ++ step (r .engine) c .answers)
   pub plain : All (Plain cs₀ (onward r c .log)) (step (r .engine) c .answers)
   pub grows : Grows (r .log) (onward r c .log)
+  pub singles : SinglesAnswered cs₀ r c
 
-whole-onward : (cs₀ : Cells) (r : Run) (c : Call) (as′ : List Answer) → Whole cs₀ r as′ → Lends r c → (step (r .engine) c .number ≡ 0 → (n : ℕ) → request (c .event) ≡ Abort n → as′ ≡ [])
+pub whole-onward : (cs₀ : Cells) (r : Run) (c : Call) (as′ : List Answer) → Whole cs₀ r as′ → Lends r c → (step (r .engine) c .number ≡ 0 → (n : ℕ) → request (c .event) ≡ Abort n → as′ ≡ [])
     → Next cs₀ r c as′
 unfolding step
 whole-onward cs₀ r c as′ w d z =
     let x = go (refusal (r .engine) c) refl d z in
-    record { whole = x .0; plain = x .1; grows = x .2 }
+    record { whole = x .0; plain = x .1; grows = x .2; singles = x .3 }
   where
     there : ℕ → Run
     there k = record {
@@ -198,11 +177,12 @@ whole-onward cs₀ r c as′ w d z =
     go : (k : ℕ) → refusal (r .engine) c ≡ k → (respond k (r .engine) c .number ≡ 0 → c .lent ≡ r .cells)
         → (respond k (r .engine) c .number ≡ 0 → (n : ℕ) → request (c .event) ≡ Abort n → as′ ≡ [])
         → Whole cs₀ (there k) (as′ ++ respond k (r .engine) c .answers) × All (Plain cs₀ (there k .log)) (respond k (r .engine) c .answers) × Grows (r .log) (there k .log)
+        × Singled cs₀ (there k .log) (r .log) (there k .log) (respond k (r .engine) c .answers)
     go zero e d′ z′ =
         let g = accept (c .scheme) cs₀ (r .engine) (c .lent) (r .log) as′ c
-        (subst (λ (x : Cells). Inv cs₀ (r .log) x (r .engine .uncommitted) (r .engine .waiting) as′) (sym (d′ refl)) (w .inv)) (w .rises) (passed (r .engine) c e) (z′ refl) in
-        (record { inv = g .after .inv; rises = g .rises; idle = g .after .idle }, g .after .plain, g .grows)
-    go (suc k) e d′ z′ = (rw append-nil w, tt, grows-same (r .log))
+        (subst (λ (x : Cells). Inv cs₀ (r .log) x (r .engine .uncommitted) (r .engine .waiting) as′) (sym (d′ refl)) (w .inv)) (w .idle) (w .rises) (passed (r .engine) c e) (z′ refl) in
+        (record { inv = g .after .inv; rises = g .rises; idle = g .after .idle }, g .after .plain, g .grows, g .singles)
+    go (suc k) e d′ z′ = (rw append-nil w, tt, grows-same (r .log), singled-none cs₀ (r .log) (r .log) (r .log) refl)
 
 -- The theorem
 
@@ -213,7 +193,7 @@ empty-whole cs₀ n = record {
   idle = λ h. refl;
 }
 
-fresh-whole : (cs₀ : Cells) → Whole cs₀ (fresh cs₀) []
+pub fresh-whole : (cs₀ : Cells) → Whole cs₀ (fresh cs₀) []
 unfolding start
 fresh-whole cs₀ = go (eqb (length cs₀) 0 || ltb mostCells (length cs₀))
   where
@@ -222,7 +202,7 @@ fresh-whole cs₀ = go (eqb (length cs₀) 0 || ltb mostCells (length cs₀))
     go false = empty-whole cs₀ (length cs₀)
 
 -- follow nothing any longer
-forget : (cs₀ : Cells) (r : Run) (as′ : List Answer) → Whole cs₀ r as′ → Whole cs₀ r []
+pub forget : (cs₀ : Cells) (r : Run) (as′ : List Answer) → Whole cs₀ r as′ → Whole cs₀ r []
 forget cs₀ r as′ w = record {
   inv = record {
     past = w .inv .past;
@@ -240,7 +220,7 @@ forget cs₀ r as′ w = record {
   idle = w .idle;
 }
 
-whole-runs : (cs₀ : Cells) (r : Run) (calls : List Call) → AllLend r calls → Whole cs₀ r [] → Whole cs₀ (runs r calls) []
+pub whole-runs : (cs₀ : Cells) (r : Run) (calls : List Call) → AllLend r calls → Whole cs₀ r [] → Whole cs₀ (runs r calls) []
 whole-runs cs₀ r [] d w = w
 whole-runs cs₀ r (c ∷ calls) d w =
     whole-runs cs₀ (onward r c) calls (d .1) (forget cs₀ (onward r c) (step (r .engine) c .answers) (whole-onward cs₀ r c [] w (d .0) (λ _ _ _. refl) .whole))
@@ -254,10 +234,10 @@ followed-runs cs₀ r (c ∷ calls) as′ d w q =
     (step (r .engine) c .answers ++ x .0, subst (λ (y : List Answer). Whole cs₀ (runs (onward r c) calls) y) (append-assoc as′ (step (r .engine) c .answers) (x .0)) (x .1))
 
 -- the invariant after any calls from a fresh start, and over one call more
-reached : (cs₀ : Cells) (calls : List Call) → AllLend (fresh cs₀) calls → Whole cs₀ (runs (fresh cs₀) calls) []
+pub reached : (cs₀ : Cells) (calls : List Call) → AllLend (fresh cs₀) calls → Whole cs₀ (runs (fresh cs₀) calls) []
 reached cs₀ calls d = whole-runs cs₀ (fresh cs₀) calls d (fresh-whole cs₀)
 
-reaches : (cs₀ : Cells) (calls : List Call) → AllLend (fresh cs₀) calls → (c : Call) → Lends (runs (fresh cs₀) calls) c → Next cs₀ (runs (fresh cs₀) calls) c []
+pub reaches : (cs₀ : Cells) (calls : List Call) → AllLend (fresh cs₀) calls → (c : Call) → Lends (runs (fresh cs₀) calls) c → Next cs₀ (runs (fresh cs₀) calls) c []
 reaches cs₀ calls d c k = whole-onward cs₀ (runs (fresh cs₀) calls) c [] (reached cs₀ calls d) k (λ _ _ _. refl)
 
 -- Answers that depend

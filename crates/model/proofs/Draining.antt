@@ -1,15 +1,15 @@
--- Draining keeps the invariant, and every answer without a dependence that it sends is right.
+-- Draining keeps the invariant, every answer without a dependence that it sends is right, and the singles that settle are answered.
 use Prim.Native.Nat.{ℕ, zero, suc, _+_, _≤_, _<_}
 use native.Mathlib.Omega.{arith}
 use mathlib.Core.Path.{_≡_, refl, sym, ap, _∙_, subst}
-use mathlib.Core.Bool.{Bool, true, false, _&&_, true≢false}
+use mathlib.Core.Bool.{Bool, true, false, _&&_, _||_, true≢false}
 use mathlib.Core.Logic.{_⊎_, inl, inr}
 use mathlib.Core.List.{List, [], _∷_, _++_, map, append-assoc, append-nil, List·Memᴰ}
 use lib.Dec.{ltb}
 use lib.ListN.{length}
 use Rattle.model.specs.Limits.{depth}
 use Rattle.model.specs.Operations.{Cells, Outcome, multi, operations, trial, told}
-use Rattle.model.specs.Transactions.{Reply, Held, Sent, Uncommitted, Waiting, Answer, answer}
+use Rattle.model.specs.Transactions.{Reply, Held, Sent, holds, Uncommitted, Waiting, Answer, answer}
 use Rattle.model.specs.Steps.{Ran, run, begun, oneCoordinator, nearest, lastFinished, mayTake, Queues, sending, Place, placed, drain}
 use Rattle.model.specs.Serial.{Tx, Decision, Open, Committed, Aborted, attempt, effect, serial}
 use Rattle.model.specs.Demand.{Log, Standing, Settles, Gone, Undecided, standing, settledOf, Gives}
@@ -17,8 +17,10 @@ use Rattle.model.specs.declared.Fragment.{Fragment}
 use Rattle.model.specs.declared.Scheme.{Scheme}
 use Rattle.model.proofs.Undoing.{Agree}
 use Rattle.model.proofs.Taking.{may-finished}
+use Rattle.model.proofs.Tests.{and-left, or-true}
+use Rattle.model.proofs.Replying.{Singled, singled-none, singled-both, singled-multi, singled-settles}
 use Rattle.model.proofs.Logs.{InOrder, rises-weaken, rises-at, gives-at, Past, Closed, closed-snoc, past-settles}
-use Rattle.model.proofs.Chain.{nearestTx, nearest-lives, asTx, txOf, lives, Entry, Chain, ButLast, FrontMulti, Pend, InPast, Followed, All, all-map, all-append, Inv, chain-cells, chain-snoc, lives-snoc, ready-snoc, ready-tail, begun-agrees, begun-entry, sent-is-not-held, held-inj, followed-idle, followed-snoc, in-past, none-pends}
+use Rattle.model.proofs.Chain.{nearestTx, nearest-lives, asTx, txOf, lives, Entry, Chain, ButLast, FrontMulti, Pend, InPast, Followed, All, all-map, all-append, Inv, chain-cells, chain-snoc, lives-snoc, ready-snoc, ready-tail, begun-agrees, begun-stands, begun-entry, settled-is, sent-is-not-held, held-inj, followed-idle, followed-snoc, in-past, none-pends}
 
 pub past-if : (s : Standing) → s ≡ Settles → Past s
 past-if s e = subst Past (sym e) tt
@@ -26,6 +28,10 @@ past-if s e = subst Past (sym e) tt
 -- an answer without a dependence is right by the log
 abbrev pub Plain : Cells → Log → Answer → Type 0
 Plain cs₀ l a = a .dependence ≡ 0 → Gives cs₀ (a .number) l (a .outcome)
+
+-- the invariant goes on after these answers, and of the singles among them each has settled
+abbrev pub Onto : Cells → Log → Log → Cells → List Uncommitted → List Waiting → List Answer → List Answer → Type 0
+Onto cs₀ l P cs us ws as′ new = (j : Inv cs₀ l cs us ws (as′ ++ new)) × Singled cs₀ l P (j .past) new
 
 -- numbers of the log from a given place on
 pub rises-drop : (n top : ℕ) (P Q : Log) → InOrder n top (P ++ Q) → InOrder n top Q
@@ -62,74 +68,85 @@ module _ (cs₀ : Cells) (top : ℕ) (l : Log) (rises : InOrder 0 top l) where
     plain-first : Plain cs₀ l (answer (w .number) 0 (run (w .fragment) cs [] .outcome))
     plain-first h = gives-at cs₀ top l (i .past) (asTx w) (map asTx ws) (run (w .fragment) cs [] .outcome) rises (i .split) (tells-at w cs (serial (settledOf (i .past)) cs₀) (i .based ∙ i .chain))
 
-    settles-at-once : multi (w .fragment) ≡ false → Inv cs₀ l (run (w .fragment) cs [] .cells) [] ws (as′ ++ (answer (w .number) 0 (run (w .fragment) cs [] .outcome) ∷ []))
-    settles-at-once e = record {
-      past = i .past ++ asTx w ∷ [];
-      base = run (w .fragment) cs [] .cells;
-      more = [];
-      split = i .split ∙ sym (append-assoc (i .past) (asTx w ∷ []) (map asTx ws));
-      closed = closed-snoc (i .past) (asTx w) (i .closed) (past-if (standing (asTx w)) st);
-      based = past-settles (i .past) (asTx w) cs₀ (i .closed) st ∙ ap (effect (asTx w)) (i .based ∙ i .chain) ∙ begun-entry w cs Sent (λ o h. sent-is-not-held o _ h) .1;
-      chain = refl;
-      ready = tt;
-      multi = tt;
-      followed = all-append (Followed 0 (i .past ++ asTx w ∷ []) (run (w .fragment) cs [] .cells) [] []) as′ (answer (w .number) 0 (run (w .fragment) cs [] .outcome) ∷ [])
-          (all-map (Followed 0 (i .past) (i .base) (i .more) []) (Followed 0 (i .past ++ asTx w ∷ []) (run (w .fragment) cs [] .cells) [] [])
-          (λ a t. followed-idle 0 (i .past) (asTx w ∷ []) (i .base) (run (w .fragment) cs [] .cells) (i .more) [] [] a t) as′ (i .followed))
-          ((λ h. absurd (h refl)), tt);
-    }
+    settles-at-once : multi (w .fragment) ≡ false → Onto cs₀ l (i .past) (run (w .fragment) cs [] .cells) [] ws as′ (answer (w .number) 0 (run (w .fragment) cs [] .outcome) ∷ [])
+    settles-at-once e = (
+      record {
+        past = i .past ++ asTx w ∷ [];
+        base = run (w .fragment) cs [] .cells;
+        more = [];
+        split = i .split ∙ sym (append-assoc (i .past) (asTx w ∷ []) (map asTx ws));
+        closed = closed-snoc (i .past) (asTx w) (i .closed) (past-if (standing (asTx w)) st);
+        based = past-settles (i .past) (asTx w) cs₀ (i .closed) st ∙ ap (effect (asTx w)) (i .based ∙ i .chain) ∙ begun-stands w cs;
+        chain = refl;
+        ready = tt;
+        multi = tt;
+        followed = all-append (Followed 0 (i .past ++ asTx w ∷ []) (run (w .fragment) cs [] .cells) [] []) as′ (answer (w .number) 0 (run (w .fragment) cs [] .outcome) ∷ [])
+            (all-map (Followed 0 (i .past) (i .base) (i .more) []) (Followed 0 (i .past ++ asTx w ∷ []) (run (w .fragment) cs [] .cells) [] [])
+            (λ a t. followed-idle 0 (i .past) (asTx w ∷ []) (i .base) (run (w .fragment) cs [] .cells) (i .more) [] [] a t) as′ (i .followed))
+            ((λ h. absurd (h refl)), tt);
+      },
+      singled-settles cs₀ top l (i .past) (asTx w) (map asTx ws) (answer (w .number) 0 (run (w .fragment) cs [] .outcome)) rises (i .split) (i .closed) st e
+          (ap (answer (w .number) 0) (tells-at w cs (serial (settledOf (i .past)) cs₀) (i .based ∙ i .chain))),
+    )
       where
         st : standing (asTx w) ≡ Settles
         st = ap {B = Standing} (λ (b : Bool). elim b [ false ↦ Settles | true ↦ Undecided ]) e
 
-    becomes-front : multi (w .fragment) ≡ true → Inv cs₀ l (run (w .fragment) cs [] .cells) (begun w (run (w .fragment) cs []) Sent ∷ []) ws (as′ ++ (answer (w .number) 0 (run (w .fragment) cs [] .outcome) ∷ []))
-    becomes-front e = record {
-      past = i .past;
-      base = cs;
-      more = [];
-      split = i .split;
-      closed = i .closed;
-      based = i .based ∙ i .chain;
-      chain = begun-entry w cs Sent (λ o h. sent-is-not-held o _ h);
-      ready = tt;
-      multi = e;
-      followed = all-append (Followed 0 (i .past) cs [] (begun w (run (w .fragment) cs []) Sent ∷ [])) as′ (answer (w .number) 0 (run (w .fragment) cs [] .outcome) ∷ [])
-          (all-map (Followed 0 (i .past) (i .base) (i .more) []) (Followed 0 (i .past) cs [] (begun w (run (w .fragment) cs []) Sent ∷ []))
-          (λ a t. rw (← append-nil (i .past)) (followed-idle 0 (i .past) [] (i .base) cs (i .more) [] (begun w (run (w .fragment) cs []) Sent ∷ []) a t)) as′ (i .followed))
-          ((λ h. absurd (h refl)), tt);
-    }
+    becomes-front : multi (w .fragment) ≡ true → Onto cs₀ l (i .past) (run (w .fragment) cs [] .cells) (begun w (run (w .fragment) cs []) Sent ∷ []) ws as′ (answer (w .number) 0 (run (w .fragment) cs [] .outcome) ∷ [])
+    becomes-front e = (
+      record {
+        past = i .past;
+        base = cs;
+        more = [];
+        split = i .split;
+        closed = i .closed;
+        based = i .based ∙ i .chain;
+        chain = begun-entry w cs Sent (λ o h. sent-is-not-held o _ h) (ap (λ (b : Bool). b || false) e);
+        ready = tt;
+        multi = e;
+        followed = all-append (Followed 0 (i .past) cs [] (begun w (run (w .fragment) cs []) Sent ∷ [])) as′ (answer (w .number) 0 (run (w .fragment) cs [] .outcome) ∷ [])
+            (all-map (Followed 0 (i .past) (i .base) (i .more) []) (Followed 0 (i .past) cs [] (begun w (run (w .fragment) cs []) Sent ∷ []))
+            (λ a t. rw (← append-nil (i .past)) (followed-idle 0 (i .past) [] (i .base) cs (i .more) [] (begun w (run (w .fragment) cs []) Sent ∷ []) a t)) as′ (i .followed))
+            ((λ h. absurd (h refl)), tt);
+      },
+      singled-multi cs₀ top l (i .past) (i .past) (asTx w) (map asTx ws) (answer (w .number) 0 (run (w .fragment) cs [] .outcome)) (i .past) rises (i .split) e refl refl,
+    )
 
   -- Behind the last of the uncommitted ones
   module _ (u : Uncommitted) (us : List Uncommitted) (w : Waiting) (ws : List Waiting) (cs : Cells) (as′ : List Answer) (i : Inv cs₀ l cs (u ∷ us) (w ∷ ws) as′)
       (f : lastFinished (u ∷ us) ≡ true) where
-    joins : (a : Reply) → ((o : Outcome) → a ≡ Held o → o ≡ run (w .fragment) cs [] .outcome) → (new : List Answer)
+    joins : (a : Reply) → ((o : Outcome) → a ≡ Held o → o ≡ run (w .fragment) cs [] .outcome) → (multi (w .fragment) || holds a) ≡ true → (new : List Answer)
         → All (Followed 0 (i .past) (i .base) (i .more) (u ∷ us ++ (begun w (run (w .fragment) cs []) a ∷ []))) new
-        → Inv cs₀ l (run (w .fragment) cs [] .cells) (u ∷ us ++ (begun w (run (w .fragment) cs []) a ∷ [])) ws (as′ ++ new)
-    joins a h new t = record {
-      past = i .past;
-      base = i .base;
-      more = i .more;
-      split = i .split ∙ ap (λ (x : Log). i .past ++ x)
-          (sym (append-assoc (lives (i .more) (u ∷ us)) (asTx w ∷ []) (map asTx ws)) ∙ ap (λ (x : Log). x ++ map asTx ws) (sym (lives-snoc (i .more) u us (begun w (run (w .fragment) cs []) a))));
-      closed = i .closed;
-      based = i .based;
-      chain = chain-snoc (i .base) (i .more) u us cs (begun w (run (w .fragment) cs []) a) (run (w .fragment) cs [] .cells) (i .chain) (begun-entry w cs a h .0) (begun-entry w cs a h .1);
-      ready = ready-snoc u us (begun w (run (w .fragment) cs []) a) (i .ready) f;
-      multi = i .multi;
-      followed = all-append (Followed 0 (i .past) (i .base) (i .more) (u ∷ us ++ (begun w (run (w .fragment) cs []) a ∷ []))) as′ new
-          (all-map (Followed 0 (i .past) (i .base) (i .more) (u ∷ us)) (Followed 0 (i .past) (i .base) (i .more) (u ∷ us ++ (begun w (run (w .fragment) cs []) a ∷ [])))
-          (λ x t′. followed-snoc 0 (i .past) (i .base) (i .more) u us (begun w (run (w .fragment) cs []) a) x t′) as′ (i .followed))
-          t;
-    }
+        → Singled cs₀ l (i .past) (i .past) new
+        → Onto cs₀ l (i .past) (run (w .fragment) cs [] .cells) (u ∷ us ++ (begun w (run (w .fragment) cs []) a ∷ [])) ws as′ new
+    joins a h hd new t s = (
+      record {
+        past = i .past;
+        base = i .base;
+        more = i .more;
+        split = i .split ∙ ap (λ (x : Log). i .past ++ x)
+            (sym (append-assoc (lives (i .more) (u ∷ us)) (asTx w ∷ []) (map asTx ws)) ∙ ap (λ (x : Log). x ++ map asTx ws) (sym (lives-snoc (i .more) u us (begun w (run (w .fragment) cs []) a))));
+        closed = i .closed;
+        based = i .based;
+        chain = chain-snoc (i .base) (i .more) u us cs (begun w (run (w .fragment) cs []) a) (run (w .fragment) cs [] .cells) (i .chain) (begun-entry w cs a h hd .0) (begun-stands w cs);
+        ready = ready-snoc u us (begun w (run (w .fragment) cs []) a) (i .ready) f;
+        multi = i .multi;
+        followed = all-append (Followed 0 (i .past) (i .base) (i .more) (u ∷ us ++ (begun w (run (w .fragment) cs []) a ∷ []))) as′ new
+            (all-map (Followed 0 (i .past) (i .base) (i .more) (u ∷ us)) (Followed 0 (i .past) (i .base) (i .more) (u ∷ us ++ (begun w (run (w .fragment) cs []) a ∷ [])))
+            (λ x t′. followed-snoc 0 (i .past) (i .base) (i .more) u us (begun w (run (w .fragment) cs []) a) x t′) as′ (i .followed))
+            t;
+      },
+      s,
+    )
 
     -- a held one
-    joins-held : Inv cs₀ l (run (w .fragment) cs [] .cells) (u ∷ us ++ (begun w (run (w .fragment) cs []) (Held (run (w .fragment) cs [] .outcome)) ∷ [])) ws (as′ ++ [])
-    joins-held = joins (Held (run (w .fragment) cs [] .outcome)) (λ o h. held-inj o (run (w .fragment) cs [] .outcome) h) [] tt
+    joins-held : Onto cs₀ l (i .past) (run (w .fragment) cs [] .cells) (u ∷ us ++ (begun w (run (w .fragment) cs []) (Held (run (w .fragment) cs [] .outcome)) ∷ [])) ws as′ []
+    joins-held = joins (Held (run (w .fragment) cs [] .outcome)) (λ o h. held-inj o (run (w .fragment) cs [] .outcome) h) (or-true (multi (w .fragment)) true refl) [] tt (singled-none cs₀ l (i .past) (i .past) refl)
 
     -- one that is answered with a dependence
-    joins-answered : Inv cs₀ l (run (w .fragment) cs [] .cells) (u ∷ us ++ (begun w (run (w .fragment) cs []) Sent ∷ [])) ws
-        (as′ ++ (answer (w .number) (nearest 0 (u ∷ us)) (run (w .fragment) cs [] .outcome) ∷ []))
-    joins-answered = joins Sent (λ o h. sent-is-not-held o _ h) (answer (w .number) (nearest 0 (u ∷ us)) (run (w .fragment) cs [] .outcome) ∷ []) (
+    joins-answered : multi (w .fragment) ≡ true → Onto cs₀ l (i .past) (run (w .fragment) cs [] .cells) (u ∷ us ++ (begun w (run (w .fragment) cs []) Sent ∷ [])) ws as′
+        (answer (w .number) (nearest 0 (u ∷ us)) (run (w .fragment) cs [] .outcome) ∷ [])
+    joins-answered e = joins Sent (λ o h. sent-is-not-held o _ h) (ap (λ (b : Bool). b || false) e) (answer (w .number) (nearest 0 (u ∷ us)) (run (w .fragment) cs [] .outcome) ∷ []) (
       (λ h. inl (record {
         ahead = lives (i .more) (u ∷ us);
         it = asTx w;
@@ -140,15 +157,16 @@ module _ (cs₀ : Cells) (top : ℕ) (l : Log) (rises : InOrder 0 top l) where
         foretells = tells-at w cs (serial (lives (i .more) (u ∷ us)) (i .base)) (chain-cells (i .base) (i .more) (u ∷ us) cs (i .chain));
       })),
       tt,
-    )
+    ) (singled-multi cs₀ top l (i .past ++ lives (i .more) (u ∷ us)) (i .past) (asTx w) (map asTx ws) (answer (w .number) (nearest 0 (u ∷ us)) (run (w .fragment) cs [] .outcome)) (i .past) rises
+        (i .split ∙ sym (append-assoc (i .past) (lives (i .more) (u ∷ us)) (asTx w ∷ map asTx ws))) e refl refl)
 
     plain-answered : Plain cs₀ l (answer (w .number) (nearest 0 (u ∷ us)) (run (w .fragment) cs [] .outcome))
     plain-answered z = absurd (nearest-front top (i .more) u us (map asTx (w ∷ ws)) (i .multi)
         (rises-drop 0 top (i .past) (lives (i .more) (u ∷ us) ++ map asTx (w ∷ ws)) (subst (λ (x : Log). InOrder 0 top x) (i .split) rises)) z)
 
   -- take the first waiting one and run it
-  pub placed-inv : (σ : Scheme) (us : List Uncommitted) (w : Waiting) (ws : List Waiting) (cs : Cells) (as′ : List Answer) → mayTake σ us ≡ true → Inv cs₀ l cs us (w ∷ ws) as′
-      → Inv cs₀ l (run (w .fragment) cs [] .cells) (placed us w (run (w .fragment) cs []) .uncommitted) ws (as′ ++ placed us w (run (w .fragment) cs []) .answers)
+  pub placed-inv : (σ : Scheme) (us : List Uncommitted) (w : Waiting) (ws : List Waiting) (cs : Cells) (as′ : List Answer) → mayTake σ us ≡ true → (i : Inv cs₀ l cs us (w ∷ ws) as′)
+      → Onto cs₀ l (i .past) (run (w .fragment) cs [] .cells) (placed us w (run (w .fragment) cs []) .uncommitted) ws as′ (placed us w (run (w .fragment) cs []) .answers)
       × All (Plain cs₀ l) (placed us w (run (w .fragment) cs []) .answers)
   unfolding placed
   placed-inv σ [] w ws cs as′ m i = go (multi (w .fragment)) refl
@@ -159,10 +177,10 @@ module _ (cs₀ : Cells) (top : ℕ) (l : Log) (rises : InOrder 0 top l) where
         | true ↦ record { uncommitted = begun w (run (w .fragment) cs []) Sent ∷ []; answers = answer (w .number) 0 (run (w .fragment) cs [] .outcome) ∷ [] }
       ]
 
-      go : (b : Bool) → multi (w .fragment) ≡ b → Inv cs₀ l (run (w .fragment) cs [] .cells) (place b .uncommitted) ws (as′ ++ place b .answers) × All (Plain cs₀ l) (place b .answers)
+      go : (b : Bool) → multi (w .fragment) ≡ b → Onto cs₀ l (i .past) (run (w .fragment) cs [] .cells) (place b .uncommitted) ws as′ (place b .answers) × All (Plain cs₀ l) (place b .answers)
       go false e = (settles-at-once w ws cs as′ i e, (plain-first w ws cs as′ i, tt))
       go true e = (becomes-front w ws cs as′ i e, (plain-first w ws cs as′ i, tt))
-  placed-inv σ (u ∷ us) w ws cs as′ m i = go (multi (w .fragment) && oneCoordinator (w .fragment .coordinator) (u ∷ us))
+  placed-inv σ (u ∷ us) w ws cs as′ m i = go (multi (w .fragment) && oneCoordinator (w .fragment .coordinator) (u ∷ us)) refl
     where
       f : lastFinished (u ∷ us) ≡ true
       f = may-finished σ u us m
@@ -173,36 +191,42 @@ module _ (cs₀ : Cells) (top : ℕ) (l : Log) (rises : InOrder 0 top l) where
         | true ↦ record { uncommitted = u ∷ us ++ (begun w (run (w .fragment) cs []) Sent ∷ []); answers = answer (w .number) (nearest 0 (u ∷ us)) (run (w .fragment) cs [] .outcome) ∷ [] }
       ]
 
-      go : (b : Bool) → Inv cs₀ l (run (w .fragment) cs [] .cells) (place b .uncommitted) ws (as′ ++ place b .answers) × All (Plain cs₀ l) (place b .answers)
-      go false = (joins-held u us w ws cs as′ i f, tt)
-      go true = (joins-answered u us w ws cs as′ i f, (plain-answered u us w ws cs as′ i f, tt))
+      go : (b : Bool) → (multi (w .fragment) && oneCoordinator (w .fragment .coordinator) (u ∷ us)) ≡ b
+          → Onto cs₀ l (i .past) (run (w .fragment) cs [] .cells) (place b .uncommitted) ws as′ (place b .answers) × All (Plain cs₀ l) (place b .answers)
+      go false e = (joins-held u us w ws cs as′ i f, tt)
+      go true e = (joins-answered u us w ws cs as′ i f (and-left (multi (w .fragment)) (oneCoordinator (w .fragment .coordinator) (u ∷ us)) e), (plain-answered u us w ws cs as′ i f, tt))
 
--- after a drain
-pub record After (cs₀ : Cells) (l : Log) (as′ : List Answer) (q : Queues) : Type 0 where
+-- after a drain that began with the past P
+pub record After (cs₀ : Cells) (l P : Log) (as′ : List Answer) (q : Queues) : Type 0 where
   pub inv : Inv cs₀ l (q .cells) (q .uncommitted) (q .waiting) (as′ ++ q .answers)
   -- "If something waits then something is uncommitted"
   pub idle : q .uncommitted ≡ [] → q .waiting ≡ []
   pub plain : All (Plain cs₀ l) (q .answers)
+  -- all that can settle has settled, and each single of it was answered
+  pub singles : Singled cs₀ l P l (q .answers)
 
-pub drain-inv : (σ : Scheme) (cs₀ : Cells) (top : ℕ) (l : Log) → InOrder 0 top l → (cs : Cells) (us : List Uncommitted) (ws : List Waiting) (as′ : List Answer) → Inv cs₀ l cs us ws as′ → After cs₀ l as′ (drain σ cs us ws)
+pub drain-inv : (σ : Scheme) (cs₀ : Cells) (top : ℕ) (l : Log) → InOrder 0 top l → (cs : Cells) (us : List Uncommitted) (ws : List Waiting) (as′ : List Answer) (i : Inv cs₀ l cs us ws as′) → After cs₀ l (i .past) as′ (drain σ cs us ws)
 unfolding drain
-drain-inv σ cs₀ top l rises cs us [] as′ i = record { inv = rw append-nil i; idle = λ _. refl; plain = tt }
+drain-inv σ cs₀ top l rises cs us [] as′ i = record { inv = rw append-nil i; idle = λ _. refl; plain = tt; singles = singled-none cs₀ l (i .past) l (settled-is cs₀ l cs us [] as′ i (λ _. refl) .0) }
 drain-inv σ cs₀ top l rises cs us (w ∷ ws) as′ i = go (mayTake σ us) refl (λ cs′ us′ as″ i′. drain-inv σ cs₀ top l rises cs′ us′ ws as″ i′)
   where
     q : Queues
     q = drain σ (run (w .fragment) cs [] .cells) (placed us w (run (w .fragment) cs []) .uncommitted) ws
 
-    go : (b : Bool) → mayTake σ us ≡ b → ((cs′ : Cells) (us′ : List Uncommitted) (as″ : List Answer) → Inv cs₀ l cs′ us′ ws as″ → After cs₀ l as″ (drain σ cs′ us′ ws))
-        → After cs₀ l as′ (elim b [
+    go : (b : Bool) → mayTake σ us ≡ b → ((cs′ : Cells) (us′ : List Uncommitted) (as″ : List Answer) (i′ : Inv cs₀ l cs′ us′ ws as″) → After cs₀ l (i′ .past) as″ (drain σ cs′ us′ ws))
+        → After cs₀ l (i .past) as′ (elim b [
           | false ↦ record { cells = cs; uncommitted = us; waiting = w ∷ ws; answers = [] }
           | true ↦ sending (placed us w (run (w .fragment) cs []) .answers) q
         ])
-    go false e rec = record { inv = rw append-nil i; idle = λ h. absurd (true≢false (sym (ap (mayTake σ) h) ∙ e)); plain = tt }
+    go false e rec =
+        let none : us ≡ [] → w ∷ ws ≡ [] = λ h. absurd (true≢false (sym (ap (mayTake σ) h) ∙ e)) in
+        record { inv = rw append-nil i; idle = none; plain = tt; singles = singled-none cs₀ l (i .past) l (settled-is cs₀ l cs us (w ∷ ws) as′ i none .0) }
     go true e rec =
         let p = placed-inv cs₀ top l rises σ us w ws cs as′ e i in
-        let a = rec (run (w .fragment) cs [] .cells) (placed us w (run (w .fragment) cs []) .uncommitted) (as′ ++ placed us w (run (w .fragment) cs []) .answers) (p .0) in
+        let a = rec (run (w .fragment) cs [] .cells) (placed us w (run (w .fragment) cs []) .uncommitted) (as′ ++ placed us w (run (w .fragment) cs []) .answers) (p .0 .0) in
         record {
           inv = subst (λ (x : List Answer). Inv cs₀ l (q .cells) (q .uncommitted) (q .waiting) x) (append-assoc as′ (placed us w (run (w .fragment) cs []) .answers) (q .answers)) (a .inv);
           idle = a .idle;
           plain = all-append (Plain cs₀ l) (placed us w (run (w .fragment) cs []) .answers) (q .answers) (p .1) (a .plain);
+          singles = singled-both cs₀ l (i .past) (p .0 .0 .past) l (placed us w (run (w .fragment) cs []) .answers) (q .answers) (p .0 .1) (a .singles);
         }

@@ -2,6 +2,7 @@ pub mod Cases
 pub mod Undoing
 pub mod Logs
 pub mod Chain
+pub mod Replying
 pub mod Taking
 pub mod Draining
 pub mod Settling
@@ -11,6 +12,7 @@ pub mod Tests
 pub mod Sound
 pub mod Keeping
 pub mod Kept
+pub mod Agreeing
 pub mod Running
 pub mod Codes
 pub mod Unique

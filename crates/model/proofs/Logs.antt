@@ -120,14 +120,18 @@ serial-append [] b cs = refl
 serial-append (t ∷ a) b cs = serial-append a b (effect t cs)
 
 -- a past with one more that settles, or that is gone
+pub settled-snoc : (P : Log) (t : Tx) → Closed P → standing t ≡ Settles → settledOf (P ++ t ∷ []) ≡ settledOf P ++ t ∷ []
+settled-snoc P t c e = settled-append P (t ∷ []) c ∙ ap {B = Log} (λ (s : Standing). settledOf P ++ elim s [ Settles ↦ t ∷ [] | Gone ↦ [] | Undecided ↦ [] ]) e
+
+pub settled-gone : (P : Log) (t : Tx) → Closed P → standing t ≡ Gone → settledOf (P ++ t ∷ []) ≡ settledOf P
+settled-gone P t c e =
+    settled-append P (t ∷ []) c ∙ ap {B = Log} (λ (s : Standing). settledOf P ++ elim s [ Settles ↦ t ∷ [] | Gone ↦ [] | Undecided ↦ [] ]) e ∙ append-nil (settledOf P)
+
 pub past-settles : (P : Log) (t : Tx) (cs : Cells) → Closed P → standing t ≡ Settles → serial (settledOf (P ++ t ∷ [])) cs ≡ effect t (serial (settledOf P) cs)
-past-settles P t cs c e =
-    ap (λ (x : Log). serial x cs) (settled-append P (t ∷ []) c ∙ ap {B = Log} (λ (s : Standing). settledOf P ++ elim s [ Settles ↦ t ∷ [] | Gone ↦ [] | Undecided ↦ [] ]) e)
-    ∙ serial-append (settledOf P) (t ∷ []) cs
+past-settles P t cs c e = ap (λ (x : Log). serial x cs) (settled-snoc P t c e) ∙ serial-append (settledOf P) (t ∷ []) cs
 
 pub past-gone : (P : Log) (t : Tx) (cs : Cells) → Closed P → standing t ≡ Gone → serial (settledOf (P ++ t ∷ [])) cs ≡ serial (settledOf P) cs
-past-gone P t cs c e =
-    ap (λ (x : Log). serial x cs) (settled-append P (t ∷ []) c ∙ ap {B = Log} (λ (s : Standing). settledOf P ++ elim s [ Settles ↦ t ∷ [] | Gone ↦ [] | Undecided ↦ [] ]) e ∙ append-nil (settledOf P))
+past-gone P t cs c e = ap (λ (x : Log). serial x cs) (settled-gone P t c e)
 
 pub rises-weaken : (m n top : ℕ) (l : Log) → m ≤ n → InOrder n top l → InOrder m top l
 rises-weaken m n top [] k h = omega arith

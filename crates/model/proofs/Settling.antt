@@ -2,19 +2,20 @@
 use Prim.Native.Nat.{ℕ, zero, suc, _+_, _≤_, _<_}
 use native.Mathlib.Omega.{arith}
 use mathlib.Core.Path.{_≡_, refl, sym, ap, _∙_, subst, subst₂}
-use mathlib.Core.Bool.{Bool, true, false, true≢false}
+use mathlib.Core.Bool.{Bool, true, false, _||_, true≢false}
 use mathlib.Core.Logic.{_⊎_, inl, inr}
-use mathlib.Core.List.{List, [], _∷_, _++_, map, append-assoc, append-nil, List·Memᴰ, List·Memᴰ·head, Memᴰ·append-right}
+use mathlib.Core.List.{List, [], _∷_, _++_, map, append-assoc, append-nil, List·Memᴰ, List·Memᴰ·head, Memᴰ·append-right, nil≢cons}
 use lib.ListN.{length}
 use Rattle.model.specs.Operations.{Cells, Outcome, multi, told}
-use Rattle.model.specs.Transactions.{Reply, Held, Sent, NoReply, Uncommitted, Waiting, Answer, answer, undoList, finished}
+use Rattle.model.specs.Transactions.{Reply, Held, Sent, NoReply, holds, Uncommitted, Waiting, Answer, answer, undoList, finished}
 use Rattle.model.specs.Steps.{undone, Ran, run, again, requeued, Place, drain, heldBy, sent, settled, Queues, sending, joined, continued, committed, aborted}
 use Rattle.model.specs.Serial.{Tx, Decision, Open, Committed, Aborted, attempt, effect, serial}
 use Rattle.model.specs.Demand.{Log, Standing, Settles, Gone, Undecided, standing, settledOf, Gives, at, extended, decided}
 use Rattle.model.specs.declared.Fragment.{Fragment}
 use Rattle.model.specs.declared.Scheme.{Scheme}
 use Rattle.model.proofs.Logs.{InOrder, rises-at, rises-put, rises-more, rises-below, gives-at, Past, Closed, closed-snoc, past-settles, past-gone, at-at, Grows, grows-more, grows-put}
-use Rattle.model.proofs.Chain.{asTx, txOf, lives, Entry, Chain, ButLast, FrontMulti, Pend, InPast, Followed, All, all-map, all-append, Inv, chain-undone, lives-requeued, ready-tail, again-entry, sent-is-not-held, followed-idle, in-past, pend-multi-leaves, pend-single-leaves, pend-front, pend-alone}
+use Rattle.model.proofs.Chain.{asTx, txOf, lives, Entry, Chain, ButLast, FrontMulti, Pend, InPast, Followed, All, all-map, all-append, Inv, chain-undone, lives-requeued, ready-tail, again-entry, sent-is-not-held, followed-idle, in-past, pend-multi-leaves, pend-single-leaves, pend-front, pend-alone, settled-is}
+use Rattle.model.proofs.Replying.{Singled, singled-none, singled-both, singled-from, singled-multi, singled-settles, singled-commit, singled-gone}
 use Rattle.model.proofs.Draining.{Plain, After, drain-inv, past-if}
 
 -- an answer without a dependence, and right
@@ -60,6 +61,30 @@ module _ (cs₀ : Cells) (top : ℕ) (l : Log) (rises : InOrder 0 top l) (cs : C
       go Sent e = tt
       go NoReply e = tt
 
+  -- a single that settles holds its answer; a multi that holds one is no single
+  held-single : (u : Uncommitted) (us : List Uncommitted) (m : Mid cs₀ l cs k (u ∷ us) ws as′) → multi (u .first) ≡ false → Singled cs₀ l (m .past) (m .past ++ txOf [] u ∷ []) (heldBy u)
+  held-single u us m e = go (u .reply) refl (m .chain .0 .held)
+    where
+      st : standing (txOf [] u) ≡ Settles
+      st = ap {B = Standing} (λ (b : Bool). elim b [ false ↦ Settles | true ↦ Undecided ]) e
+
+      none : {A : Type 0} → (multi (u .first) || false) ≡ true → A
+      none h = absurd (true≢false (sym h ∙ ap (λ (b : Bool). b || false) e))
+
+      go : (a : Reply) → u .reply ≡ a → (multi (u .first) || holds a) ≡ true → Singled cs₀ l (m .past) (m .past ++ txOf [] u ∷ []) (elim a [ Held o ↦ answer (u .number) 0 o ∷ [] | Sent ↦ [] | NoReply ↦ [] ])
+      go (Held o) x h = singled-settles cs₀ top l (m .past) (txOf [] u) (lives [] us ++ map asTx ws) (answer (u .number) 0 o) rises (m .split) (m .closed) st e
+          (ap (answer (u .number) 0) (m .chain .0 .says o x ∙ ap (λ (y : Cells). told (attempt (txOf [] u) y)) (sym (m .based))))
+      go Sent x h = none h
+      go NoReply x h = none h
+
+  held-multi : (u : Uncommitted) (us : List Uncommitted) (m : Mid cs₀ l cs k (u ∷ us) ws as′) → multi (u .first) ≡ true → Singled cs₀ l (m .past) (m .past) (heldBy u)
+  held-multi u us m e = go (u .reply)
+    where
+      go : (a : Reply) → Singled cs₀ l (m .past) (m .past) (elim a [ Held o ↦ answer (u .number) 0 o ∷ [] | Sent ↦ [] | NoReply ↦ [] ])
+      go (Held o) = singled-multi cs₀ top l (m .past) (m .past) (txOf [] u) (lives [] us ++ map asTx ws) (answer (u .number) 0 o) (m .past) rises (m .split) e refl refl
+      go Sent = singled-none cs₀ l (m .past) (m .past) refl
+      go NoReply = singled-none cs₀ l (m .past) (m .past) refl
+
   -- a multi is first: the new front
   new-front : (u : Uncommitted) (us : List Uncommitted) → multi (u .first) ≡ true → Mid cs₀ l cs k (u ∷ us) ws as′ → Inv cs₀ l cs (sent u ∷ us) ws as′
   new-front u us e m = record {
@@ -69,7 +94,17 @@ module _ (cs₀ : Cells) (top : ℕ) (l : Log) (rises : InOrder 0 top l) (cs : C
     split = m .split;
     closed = m .closed;
     based = m .based;
-    chain = (record { back = m .chain .0 .back; fine = m .chain .0 .fine; says = λ o h. sent-is-not-held o _ h }, m .chain .1);
+    chain = (
+      record {
+        back = m .chain .0 .back;
+        fine = m .chain .0 .fine;
+        says = λ o h. sent-is-not-held o _ h;
+        state = m .chain .0 .state;
+        ran = m .chain .0 .ran;
+        held = ap (λ (b : Bool). b || false) e;
+      },
+      m .chain .1,
+    );
     ready = ready-sent u us (m .ready);
     multi = e;
     followed = all-map (Followed k (m .past) (m .base) [] (u ∷ us)) (Followed 0 (m .past) (m .base) [] (sent u ∷ us)) (λ a t h. go a (t h)) as′ (m .followed);
@@ -110,22 +145,26 @@ module _ (cs₀ : Cells) (top : ℕ) (l : Log) (rises : InOrder 0 top l) (cs : C
           here (inr x) = inl x
 
   -- "Then singles settle and are answered from the front of the queue until a multi is first."
-  pub settled-inv : (us : List Uncommitted) → Mid cs₀ l cs k us ws as′ → Inv cs₀ l cs (settled us .uncommitted) ws as′ × All (Sure cs₀ l) (settled us .answers)
-  unfolding settled
+  pub settled-inv : (us : List Uncommitted) (m : Mid cs₀ l cs k us ws as′)
+      → ((j : Inv cs₀ l cs (settled us .uncommitted) ws as′) × Singled cs₀ l (m .past) (j .past) (settled us .answers)) × All (Sure cs₀ l) (settled us .answers)
+  unfolding settled new-front single-settles
   settled-inv [] m = (
-    record {
-      past = m .past;
-      base = m .base;
-      more = [];
-      split = m .split;
-      closed = m .closed;
-      based = m .based;
-      chain = m .chain;
-      ready = tt;
-      multi = tt;
-      followed = all-map (Followed k (m .past) (m .base) [] []) (Followed 0 (m .past) (m .base) [] [])
-          (λ a t. rw (← append-nil (m .past)) (followed-idle k (m .past) [] (m .base) (m .base) [] [] [] a t)) as′ (m .followed);
-    },
+    (
+      record {
+        past = m .past;
+        base = m .base;
+        more = [];
+        split = m .split;
+        closed = m .closed;
+        based = m .based;
+        chain = m .chain;
+        ready = tt;
+        multi = tt;
+        followed = all-map (Followed k (m .past) (m .base) [] []) (Followed 0 (m .past) (m .base) [] [])
+            (λ a t. rw (← append-nil (m .past)) (followed-idle k (m .past) [] (m .base) (m .base) [] [] [] a t)) as′ (m .followed);
+      },
+      singled-none cs₀ l (m .past) (m .past) refl,
+    ),
     tt,
   )
   settled-inv (u ∷ us) m = go (multi (u .first)) refl (λ m′. settled-inv us m′)
@@ -136,18 +175,22 @@ module _ (cs₀ : Cells) (top : ℕ) (l : Log) (rises : InOrder 0 top l) (cs : C
         | false ↦ record { uncommitted = settled us .uncommitted; answers = heldBy u ++ settled us .answers }
       ]
 
-      go : (b : Bool) → multi (u .first) ≡ b → (Mid cs₀ l cs k us ws as′ → Inv cs₀ l cs (settled us .uncommitted) ws as′ × All (Sure cs₀ l) (settled us .answers))
-          → Inv cs₀ l cs (place b .uncommitted) ws as′ × All (Sure cs₀ l) (place b .answers)
-      go true e rec = (new-front u us e m, held-sure u us m)
+      go : (b : Bool) → multi (u .first) ≡ b
+          → ((m′ : Mid cs₀ l cs k us ws as′) → ((j : Inv cs₀ l cs (settled us .uncommitted) ws as′) × Singled cs₀ l (m′ .past) (j .past) (settled us .answers)) × All (Sure cs₀ l) (settled us .answers))
+          → ((j : Inv cs₀ l cs (place b .uncommitted) ws as′) × Singled cs₀ l (m .past) (j .past) (place b .answers)) × All (Sure cs₀ l) (place b .answers)
+      go true e rec = ((new-front u us e m, held-multi u us m e), held-sure u us m)
       go false e rec =
           let x = rec (single-settles u us e m) in
-          (x .0, all-append (Sure cs₀ l) (heldBy u) (settled us .answers) (held-sure u us m) (x .1))
+          ((x .0 .0, singled-both cs₀ l (m .past) (m .past ++ txOf [] u ∷ []) (x .0 .0 .past) (heldBy u) (settled us .answers) (held-single u us m e) (x .0 .1)), all-append (Sure cs₀ l) (heldBy u) (settled us .answers) (held-sure u us m) (x .1))
 
 -- after an accepted call: the log was l and is l′, the largest number top′
 pub record Got (cs₀ : Cells) (l l′ : Log) (top′ : ℕ) (as′ : List Answer) (q : Queues) : Type 0 where
-  pub after : After cs₀ l′ as′ q
+  pub began : Log
+  pub after : After cs₀ l′ began as′ q
   pub rises : InOrder 0 top′ l′
   pub grows : Grows l l′
+  -- the answers of singles are those of the singles that settled, in that order
+  pub singles : Singled cs₀ l′ l l′ (q .answers)
 
 followed-sure : (cs₀ : Cells) (l : Log) (P : Log) (b : Cells) (fs : List Fragment) (us : List Uncommitted) (new : List Answer) → All (Sure cs₀ l) new → All (Followed 0 P b fs us) new
 followed-sure cs₀ l P b fs us new h = all-map (Sure cs₀ l) (Followed 0 P b fs us) (λ a s z. absurd (z (s .0))) new h
@@ -171,14 +214,16 @@ followed cs₀ l cs us ws as′ new h i = record {
 }
 
 -- a call that sends some answers itself and then drains
-sends-drains : (σ : Scheme) (cs₀ : Cells) (top : ℕ) (l : Log) → InOrder 0 top l → (cs : Cells) (us : List Uncommitted) (ws : List Waiting) (as′ new : List Answer) → All (Sure cs₀ l) new → Inv cs₀ l cs us ws as′
-    → After cs₀ l as′ (sending new (drain σ cs us ws))
-sends-drains σ cs₀ top l rises cs us ws as′ new h i =
+sends-drains : (σ : Scheme) (cs₀ : Cells) (top : ℕ) (l : Log) → InOrder 0 top l → (cs : Cells) (us : List Uncommitted) (ws : List Waiting) (as′ new : List Answer) → All (Sure cs₀ l) new → (P : Log) (i : Inv cs₀ l cs us ws as′)
+    → Singled cs₀ l P (i .past) new → After cs₀ l P as′ (sending new (drain σ cs us ws))
+unfolding followed
+sends-drains σ cs₀ top l rises cs us ws as′ new h P i s =
     let a = drain-inv σ cs₀ top l rises cs us ws (as′ ++ new) (followed cs₀ l cs us ws as′ new h i) in
     record {
       inv = subst (λ (x : List Answer). Inv cs₀ l (drain σ cs us ws .cells) (drain σ cs us ws .uncommitted) (drain σ cs us ws .waiting) x) (append-assoc as′ new (drain σ cs us ws .answers)) (a .inv);
       idle = a .idle;
       plain = all-append (Plain cs₀ l) new (drain σ cs us ws .answers) (plain-sure cs₀ l new h) (a .plain);
+      singles = singled-both cs₀ l P (i .past) l new (drain σ cs us ws .answers) s (a .singles);
     }
 
 module _ (cs₀ : Cells) (top : ℕ) (l : Log) (rises : InOrder 0 top l) (cs : Cells) (ws : List Waiting) (as′ : List Answer) where
@@ -205,6 +250,9 @@ module _ (cs₀ : Cells) (top : ℕ) (l : Log) (rises : InOrder 0 top l) (cs : C
         go : (n : ℕ) (P : Log) → InOrder n top (P ++ txOf (i .more) u ∷ (lives [] us ++ map asTx ws)) → u .number ≤ top
         go n [] h = rises-below (u .number) top (lives [] us ++ map asTx ws) (h .1)
         go n (p ∷ P) h = go (p .number) P (h .1)
+
+    pub settled-before : settledOf l ≡ settledOf (i .past)
+    settled-before = settled-is cs₀ l cs (u ∷ us) ws as′ i (λ h. absurd (nil≢cons (sym h))) .0
 
     -- "Commit of the front: it settles."
     front-settles : Mid cs₀ (at (u .number) (decided Committed) l) cs (u .number) us ws as′
@@ -237,14 +285,29 @@ module _ (cs₀ : Cells) (top : ℕ) (l : Log) (rises : InOrder 0 top l) (cs : C
             here (inr y) = inl y
 
     pub commit-inv : (σ : Scheme) → Got cs₀ l (at (u .number) (decided Committed) l) top as′ (committed σ cs (u ∷ us) ws)
+    unfolding front-settles
     commit-inv σ =
+        let l′ : Log = at (u .number) (decided Committed) l in
+        let done : Tx = decided Committed (txOf (i .more) u) in
+        let st : standing done ≡ Settles = ap {B = Standing} (λ (b : Bool). elim b [ false ↦ Settles | true ↦ Settles ]) (i .multi) in
         let h = rises-log-front (decided Committed) refl in
-        let x = settled-inv cs₀ top (at (u .number) (decided Committed) l) h cs (u .number) ws as′ us front-settles in
-        record { after = sends-drains σ cs₀ top (at (u .number) (decided Committed) l) h cs (settled us .uncommitted) ws as′ (settled us .answers) (x .1) (x .0); rises = h; grows = grows-front (decided Committed) }
+        let x = settled-inv cs₀ top l′ h cs (u .number) ws as′ us front-settles in
+        let a = sends-drains σ cs₀ top l′ h cs (settled us .uncommitted) ws as′ (settled us .answers) (x .1) (i .past) (x .0 .0)
+        (singled-both cs₀ l′ (i .past) (i .past ++ done ∷ []) (x .0 .0 .past) [] (settled us .answers) (singled-commit cs₀ l′ (i .past) done (i .closed) st (i .multi)) (x .0 .1)) in
+        record { began = i .past; after = a; rises = h; grows = grows-front (decided Committed); singles = singled-from cs₀ l′ (i .past) l l′ (committed σ cs (u ∷ us) ws .answers) (sym settled-before) (a .singles) }
 
     -- "Abort of the front": nothing that depended is followed any longer
     pub abort-inv : (σ : Scheme) → Got cs₀ l (at (u .number) (decided Aborted) l) top [] (aborted σ cs (u ∷ us) ws)
-    abort-inv σ = record { after = drain-inv σ cs₀ top (at (u .number) (decided Aborted) l) h (undone (undoList (u ∷ us)) cs) [] (map requeued us ++ ws) [] inv; rises = h; grows = grows-front (decided Aborted) }
+    abort-inv σ =
+        let l′ : Log = at (u .number) (decided Aborted) l in
+        let a = drain-inv σ cs₀ top l′ h (undone (undoList (u ∷ us)) cs) [] (map requeued us ++ ws) [] inv in
+        record {
+          began = inv .past;
+          after = a;
+          rises = h;
+          grows = grows-front (decided Aborted);
+          singles = singled-from cs₀ l′ (i .past) l l′ (aborted σ cs (u ∷ us) ws .answers) (sym settled-before) (singled-both cs₀ l′ (i .past) (i .past ++ gone ∷ []) l′ [] (aborted σ cs (u ∷ us) ws .answers) (singled-gone cs₀ l′ (i .past) gone (i .closed) st) (a .singles));
+        }
       where
         gone : Tx
         gone = decided Aborted (txOf (i .more) u)
@@ -275,16 +338,11 @@ pub again-inv : (σ : Scheme) (cs₀ : Cells) (top : ℕ) (l : Log) (rises : InO
     (i : Inv cs₀ l cs (u ∷ us) ws as′) (f : Fragment) → finished (u .state) ≡ false → Got cs₀ l (at (u .number) (extended f) l) top as′ (continued σ f cs u us ws)
 again-inv σ cs₀ top l rises cs ws as′ u (v ∷ us) i f nf = absurd (true≢false (sym (i .ready .0) ∙ nf))
 again-inv σ cs₀ top l rises cs ws as′ u [] i f nf = record {
-  after = sends-drains σ cs₀ top (at (u .number) (extended f) l) h (run f cs (u .undo) .cells) (again u f (run f cs (u .undo)) ∷ []) ws as′ (answer (u .number) 0 (run f cs (u .undo) .outcome) ∷ []) (
-    (
-      refl,
-      gives-at cs₀ top (at (u .number) (extended f) l) (i .past) (txOf (i .more ++ (f ∷ [])) u) (map asTx ws) (run f cs (u .undo) .outcome) h log
-          (x .1 ∙ ap (λ (y : Cells). told (attempt (txOf (i .more ++ (f ∷ [])) u) y)) (sym (i .based))),
-    ),
-    tt,
-  ) inv;
+  began = i .past;
+  after = after;
   rises = h;
   grows = grows-front cs₀ top l rises cs ws as′ u [] i (extended f);
+  singles = singled-from cs₀ (at (u .number) (extended f) l) (i .past) l (at (u .number) (extended f) l) (continued σ f cs u [] ws .answers) (sym (settled-before cs₀ top l rises cs ws as′ u [] i)) (after .singles);
 }
   where
     h : InOrder 0 top (at (u .number) (extended f) l)
@@ -295,7 +353,7 @@ again-inv σ cs₀ top l rises cs ws as′ u [] i f nf = record {
 
     x : (Entry (i .base) (i .more ++ (f ∷ [])) (again u f (run f cs (u .undo))) × (effect (txOf (i .more ++ (f ∷ [])) u) (i .base) ≡ run f cs (u .undo) .cells))
         × (run f cs (u .undo) .outcome ≡ told (attempt (txOf (i .more ++ (f ∷ [])) u) (i .base)))
-    x = again-entry (i .base) (i .more) u f cs (i .chain .0) (i .chain .1) nf
+    x = again-entry (i .base) (i .more) u f cs (i .chain .0) (i .chain .1) nf (i .multi)
 
     inv : Inv cs₀ (at (u .number) (extended f) l) (run f cs (u .undo) .cells) (again u f (run f cs (u .undo)) ∷ []) ws as′
     inv = record {
@@ -316,26 +374,42 @@ again-inv σ cs₀ top l rises cs ws as′ u [] i f nf = record {
         go a z (inl p) = absurd (pend-alone (i .base) (i .more) u a z p)
         go a z (inr y) = inr y
 
+    after : After cs₀ (at (u .number) (extended f) l) (i .past) as′ (continued σ f cs u [] ws)
+    after = sends-drains σ cs₀ top (at (u .number) (extended f) l) h (run f cs (u .undo) .cells) (again u f (run f cs (u .undo)) ∷ []) ws as′ (answer (u .number) 0 (run f cs (u .undo) .outcome) ∷ []) (
+      (
+        refl,
+        gives-at cs₀ top (at (u .number) (extended f) l) (i .past) (txOf (i .more ++ (f ∷ [])) u) (map asTx ws) (run f cs (u .undo) .outcome) h log
+            (x .1 ∙ ap (λ (y : Cells). told (attempt (txOf (i .more ++ (f ∷ [])) u) y)) (sym (i .based))),
+      ),
+      tt,
+    ) (i .past) inv
+        (singled-multi cs₀ top (at (u .number) (extended f) l) (i .past) (i .past) (txOf (i .more ++ (f ∷ [])) u) (map asTx ws) (answer (u .number) 0 (run f cs (u .undo) .outcome)) (i .past) h log (i .multi) refl refl)
+
 -- "Arrival, new number": join the end of the waiting queue
 pub new-inv : (σ : Scheme) (cs₀ : Cells) (top : ℕ) (l : Log) (rises : InOrder 0 top l) (cs : Cells) (us : List Uncommitted) (ws : List Waiting) (as′ : List Answer) (w : Waiting)
-    (i : Inv cs₀ l cs us ws as′) → top < w .number → Got cs₀ l (l ++ asTx w ∷ []) (w .number) as′ (joined σ (w .number) (w .fragment) cs us ws)
-new-inv σ cs₀ top l rises cs us ws as′ w i k = record {
-  after = drain-inv σ cs₀ (w .number) (l ++ asTx w ∷ []) h cs us (ws ++ (w ∷ [])) as′ (record {
-    past = i .past;
-    base = i .base;
-    more = i .more;
-    split = ap (λ (x : Log). x ++ asTx w ∷ []) (i .split) ∙ append-assoc (i .past) (lives (i .more) us ++ map asTx ws) (asTx w ∷ [])
-        ∙ ap (λ (x : Log). i .past ++ x) (append-assoc (lives (i .more) us) (map asTx ws) (asTx w ∷ []) ∙ ap (λ (x : Log). lives (i .more) us ++ x) (sym (map-append ws (w ∷ []))));
-    closed = i .closed;
-    based = i .based;
-    chain = i .chain;
-    ready = i .ready;
-    multi = i .multi;
-    followed = i .followed;
-  });
+    (i : Inv cs₀ l cs us ws as′) → (us ≡ [] → ws ≡ []) → top < w .number → Got cs₀ l (l ++ asTx w ∷ []) (w .number) as′ (joined σ (w .number) (w .fragment) cs us ws)
+new-inv σ cs₀ top l rises cs us ws as′ w i idle k = record {
+  began = i .past;
+  after = after;
   rises = h;
   grows = grows-more l (asTx w);
+  singles = singled-from cs₀ (l ++ asTx w ∷ []) (i .past) l (l ++ asTx w ∷ []) (joined σ (w .number) (w .fragment) cs us ws .answers) (sym (settled-is cs₀ l cs us ws as′ i idle .0)) (after .singles);
 }
   where
     h : InOrder 0 (w .number) (l ++ asTx w ∷ [])
     h = rises-more 0 top l (asTx w) k rises
+
+    after : After cs₀ (l ++ asTx w ∷ []) (i .past) as′ (joined σ (w .number) (w .fragment) cs us ws)
+    after = drain-inv σ cs₀ (w .number) (l ++ asTx w ∷ []) h cs us (ws ++ (w ∷ [])) as′ (record {
+      past = i .past;
+      base = i .base;
+      more = i .more;
+      split = ap (λ (x : Log). x ++ asTx w ∷ []) (i .split) ∙ append-assoc (i .past) (lives (i .more) us ++ map asTx ws) (asTx w ∷ [])
+          ∙ ap (λ (x : Log). i .past ++ x) (append-assoc (lives (i .more) us) (map asTx ws) (asTx w ∷ []) ∙ ap (λ (x : Log). lives (i .more) us ++ x) (sym (map-append ws (w ∷ []))));
+      closed = i .closed;
+      based = i .based;
+      chain = i .chain;
+      ready = i .ready;
+      multi = i .multi;
+      followed = i .followed;
+    })

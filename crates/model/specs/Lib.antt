@@ -5,4 +5,5 @@ pub mod Steps
 pub mod Refusals
 pub mod Serial
 pub mod Demand
+pub mod Schemes
 pub mod Depot

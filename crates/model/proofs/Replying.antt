@@ -1,0 +1,85 @@
+-- Laws of what singles are answered, of logs and lists of answers alone: the replies of a past that grows, and the answers of singles among those
+-- that are sent.
+use Prim.Native.Nat.{ℕ}
+use mathlib.Core.Path.{_≡_, refl, sym, ap, _∙_, subst}
+use mathlib.Core.Bool.{Bool, true, false, not}
+use mathlib.Core.List.{List, [], _∷_, _++_, append-assoc, append-nil}
+use Rattle.model.specs.Operations.{Cells, multi, told}
+use Rattle.model.specs.Transactions.{Answer, answer}
+use Rattle.model.specs.Serial.{Tx, attempt, effect, serial}
+use Rattle.model.specs.Demand.{Log, Standing, Settles, Gone, Undecided, standing, settledOf, Found, This, None, the}
+use Rattle.model.specs.Schemes.{single, ofSingles, replies}
+use Rattle.model.proofs.Logs.{InOrder, the-at, Closed, settled-snoc, settled-gone}
+
+-- from the past P to the past Q, these answers have those of the singles that settled, in order
+abbrev pub Singled : Cells → Log → Log → Log → List Answer → Type 0
+Singled cs l P Q as′ = replies (settledOf Q) cs ≡ replies (settledOf P) cs ++ ofSingles l as′
+
+of-append : (l : Log) (a b : List Answer) → ofSingles l (a ++ b) ≡ ofSingles l a ++ ofSingles l b
+of-append l [] b = refl
+of-append l (x ∷ a) b = go (single (x .number) l) (of-append l a b)
+  where
+    go : (s : Bool) → ofSingles l (a ++ b) ≡ ofSingles l a ++ ofSingles l b
+        → _≡_ {A = List Answer} (elim s [ true ↦ x ∷ ofSingles l (a ++ b) | false ↦ ofSingles l (a ++ b) ]) ((elim s [ true ↦ x ∷ ofSingles l a | false ↦ ofSingles l a ]) ++ ofSingles l b)
+    go true e = ap {B = List Answer} (λ (y : List Answer). x ∷ y) e
+    go false e = e
+
+replies-append : (a b : List Tx) (cs : Cells) → replies (a ++ b) cs ≡ replies a cs ++ replies b (serial a cs)
+replies-append [] b cs = refl
+replies-append (t ∷ a) b cs = go (multi (t .first)) (replies-append a b (effect t cs))
+  where
+    go : (m : Bool) → replies (a ++ b) (effect t cs) ≡ replies a (effect t cs) ++ replies b (serial a (effect t cs))
+        → _≡_ {A = List Answer} (elim m [ true ↦ replies (a ++ b) (effect t cs) | false ↦ answer (t .number) 0 (told (attempt t cs)) ∷ replies (a ++ b) (effect t cs) ])
+        ((elim m [ true ↦ replies a (effect t cs) | false ↦ answer (t .number) 0 (told (attempt t cs)) ∷ replies a (effect t cs) ]) ++ replies b (serial a (effect t cs)))
+    go true e = e
+    go false e = ap {B = List Answer} (λ (y : List Answer). answer (t .number) 0 (told (attempt t cs)) ∷ y) e
+
+-- nothing sent, and nothing more settled
+pub singled-none : (cs : Cells) (l P Q : Log) → settledOf Q ≡ settledOf P → Singled cs l P Q []
+singled-none cs l P Q e = ap (λ (x : List Tx). replies x cs) e ∙ sym (append-nil (replies (settledOf P) cs))
+
+-- one after the other
+pub singled-both : (cs : Cells) (l P Q R : Log) (a b : List Answer) → Singled cs l P Q a → Singled cs l Q R b → Singled cs l P R (a ++ b)
+singled-both cs l P Q R a b s t =
+    t ∙ ap (λ (x : List Answer). x ++ ofSingles l b) s ∙ append-assoc (replies (settledOf P) cs) (ofSingles l a) (ofSingles l b)
+    ∙ ap (λ (x : List Answer). replies (settledOf P) cs ++ x) (sym (of-append l a b))
+
+-- from another past in which the same is settled
+pub singled-from : (cs : Cells) (l P P′ Q : Log) (a : List Answer) → settledOf P ≡ settledOf P′ → Singled cs l P Q a → Singled cs l P′ Q a
+singled-from cs l P P′ Q a e s = s ∙ ap (λ (x : List Tx). replies x cs ++ ofSingles l a) e
+
+-- whose answer it is
+single-at : (top : ℕ) (l P : Log) (t : Tx) (R : Log) → InOrder 0 top l → l ≡ P ++ t ∷ R → single (t .number) l ≡ not (multi (t .first))
+single-at top l P t R h e =
+    ap {B = Bool} (λ (x : Found). elim x [ This t ↦ not (multi (t .first)) | None ↦ false ]) (ap (the (t .number)) e ∙ the-at top t R 0 P (subst (λ (x : Log). InOrder 0 top x) e h))
+
+-- the answer of a multi of the log is no single's
+pub of-multi : (top : ℕ) (l P : Log) (t : Tx) (R : Log) (a : Answer) → InOrder 0 top l → l ≡ P ++ t ∷ R → multi (t .first) ≡ true → a .number ≡ t .number → ofSingles l (a ∷ []) ≡ []
+of-multi top l P t R a h e m n =
+    ap {B = List Answer} (λ (s : Bool). elim s [ true ↦ a ∷ [] | false ↦ [] ]) (ap (λ (k : ℕ). single k l) n ∙ single-at top l P t R h e ∙ ap not m)
+
+-- a multi's answers, while nothing more settles
+pub singled-multi : (cs : Cells) (top : ℕ) (l P Q : Log) (t : Tx) (R : Log) (a : Answer) (p : Log) → InOrder 0 top l → l ≡ P ++ t ∷ R → multi (t .first) ≡ true → a .number ≡ t .number → settledOf Q ≡ settledOf p → Singled cs l p Q (a ∷ [])
+singled-multi cs top l P Q t R a p h e m n q = singled-none cs l p Q q ∙ ap (λ (x : List Answer). replies (settledOf p) cs ++ x) (sym (of-multi top l P t R a h e m n))
+
+-- a single settles with its answer
+pub singled-settles : (cs : Cells) (top : ℕ) (l P : Log) (t : Tx) (R : Log) (a : Answer) → InOrder 0 top l → l ≡ P ++ t ∷ R → Closed P → standing t ≡ Settles → multi (t .first) ≡ false
+    → a ≡ answer (t .number) 0 (told (attempt t (serial (settledOf P) cs))) → Singled cs l P (P ++ t ∷ []) (a ∷ [])
+singled-settles cs top l P t R a h e c s m is =
+    ap (λ (x : List Tx). replies x cs) (settled-snoc P t c s) ∙ replies-append (settledOf P) (t ∷ []) cs
+    ∙ ap {B = List Answer} (λ (b : Bool). replies (settledOf P) cs ++ elim b [ true ↦ [] | false ↦ answer (t .number) 0 (told (attempt t (serial (settledOf P) cs))) ∷ [] ]) m
+    ∙ ap (λ (x : List Answer). replies (settledOf P) cs ++ x) (sym whose)
+  where
+    whose : ofSingles l (a ∷ []) ≡ answer (t .number) 0 (told (attempt t (serial (settledOf P) cs))) ∷ []
+    whose =
+        ap {B = List Answer} (λ (s : Bool). elim s [ true ↦ a ∷ [] | false ↦ [] ]) (ap (λ (x : Answer). single (x .number) l) is ∙ single-at top l P t R h e ∙ ap not m)
+        ∙ ap {B = List Answer} (λ (x : Answer). x ∷ []) is
+
+-- a multi settles, or is gone: nobody is answered
+pub singled-commit : (cs : Cells) (l P : Log) (t : Tx) → Closed P → standing t ≡ Settles → multi (t .first) ≡ true → Singled cs l P (P ++ t ∷ []) []
+singled-commit cs l P t c s m =
+    ap (λ (x : List Tx). replies x cs) (settled-snoc P t c s) ∙ replies-append (settledOf P) (t ∷ []) cs
+    ∙ ap {B = List Answer} (λ (b : Bool). replies (settledOf P) cs ++ elim b [ true ↦ [] | false ↦ answer (t .number) 0 (told (attempt t (serial (settledOf P) cs))) ∷ [] ]) m
+
+pub singled-gone : (cs : Cells) (l P : Log) (t : Tx) → Closed P → standing t ≡ Gone → Singled cs l P (P ++ t ∷ []) []
+singled-gone cs l P t c s = singled-none cs l P (P ++ t ∷ []) (settled-gone P t c s)
