@@ -1,5 +1,5 @@
 -- Document 01, "Depot cases": P1 to P9, one table. Each case: the starting cells, the events, for each of them the returned number with
--- the answers, and the cells at the end. "Cells 5 and 10 unless said."
+-- the answers, and the cells at the end. "Cells 5 and 10 unless said." Then those of them that show the blocking scheme (02, L5).
 use Prim.Native.Nat.{ℕ, _-_}
 use mathlib.Core.List.{List, [], _∷_, _++_}
 use lib.ListN.{length, replicate}
@@ -9,7 +9,7 @@ use Rattle.model.specs.Transactions.{Engine, Answer, answer}
 use Rattle.model.specs.Refusals.{Stepped, step, start}
 use Rattle.model.specs.declared.Op.{Op}
 use Rattle.model.specs.declared.Event.{Event}
-use Rattle.model.specs.declared.Scheme.the-variants.{Speculation}
+use Rattle.model.specs.declared.Scheme.{Scheme}
 
 -- what a trace prints: a number and answers for each event, then the cells
 pub record Printed : Type 0 where
@@ -19,11 +19,11 @@ pub record Printed : Type 0 where
 abbrev pub printed : List (ℕ × List Answer) → Cells → Printed
 printed es cs = record { events = es; cells = cs }
 
-unfoldable pub traced : Engine → Cells → List Event → Printed
-traced e cs [] = printed [] cs
-traced e cs (v ∷ vs) =
-    let s = step e (record { scheme = Speculation; event = v; lent = cs; room = replicate leastRoom 0 }) in
-    let p = traced (s .engine) (s .cells) vs in
+unfoldable pub traced : Scheme → Engine → Cells → List Event → Printed
+traced σ e cs [] = printed [] cs
+traced σ e cs (v ∷ vs) =
+    let s = step e (record { scheme = σ; event = v; lent = cs; room = replicate leastRoom 0 }) in
+    let p = traced σ (s .engine) (s .cells) vs in
     printed ((s .number, s .answers) ∷ p .events) (p .cells)
 
 pub record Case : Type 0 where
@@ -31,8 +31,8 @@ pub record Case : Type 0 where
   pub events : List Event
   pub prints : Printed
 
-abbrev pub outcomeOf : Case → Printed
-outcomeOf c = traced (start (length (c .cells)) .engine) (c .cells) (c .events)
+abbrev pub outcomeOf : Scheme → Case → Printed
+outcomeOf σ c = traced σ (start (length (c .cells)) .engine) (c .cells) (c .events)
 
 -- Events by their words. A row has eight places, unused ones zero.
 
@@ -122,5 +122,19 @@ depot =
       cells = 5 ∷ 10 ∷ [];
       events = unfinished 1 1 (one (op 1 0 0)) ∷ commit 1 ∷ finishing 1 1 (one (op 4 1 11)) ∷ commit 1 ∷ [];
       prints = printed (ok (gave 1 0 (5 ∷ [])) ∷ refused 13 ∷ ok (failing 1 1) ∷ refused 14 ∷ []) (5 ∷ 10 ∷ []);
+    }
+    ∷ []
+
+-- By blocking. P1 and P2 print the same: by either scheme the singles are answered once 1 is decided. In P7 and P8 nothing depends: 3 runs when 1 has
+-- committed, and 4 when 3 has.
+abbrev pub blocked : List Case
+blocked =
+    record { cells = 5 ∷ []; events = opening ++ (commit 1 ∷ []); prints = printed (opened ++ ((0, gave 2 0 (18 ∷ []) ∷ gave 3 0 (19 ∷ []) ∷ []) ∷ [])) (19 ∷ []) }
+    ∷ record { cells = 5 ∷ []; events = opening ++ (abort 1 ∷ []); prints = printed (opened ++ ((0, gave 2 0 (6 ∷ []) ∷ gave 3 0 (7 ∷ []) ∷ []) ∷ [])) (7 ∷ []) }
+    ∷ record { cells = 5 ∷ 10 ∷ []; events = chained; prints = printed (ok (gave 1 0 (17 ∷ [])) ∷ quiet ∷ quiet ∷ []) (17 ∷ 10 ∷ []) }
+    ∷ record {
+      cells = 5 ∷ 10 ∷ [];
+      events = chained ++ (finishing 4 2 (one (op 1 0 0)) ∷ commit 3 ∷ commit 1 ∷ commit 3 ∷ []);
+      prints = printed (ok (gave 1 0 (17 ∷ [])) ∷ quiet ∷ quiet ∷ quiet ∷ refused 7 ∷ (0, gave 2 0 (18 ∷ []) ∷ gave 3 0 (19 ∷ []) ∷ []) ∷ ok (gave 4 0 (19 ∷ [])) ∷ []) (19 ∷ 10 ∷ []);
     }
     ∷ []
