@@ -9,13 +9,16 @@ use Rattle.model.specs.Transactions.{Uncommitted, Waiting, Answer, numbers}
 use Rattle.model.specs.Refusals.{Call, step}
 use Rattle.model.specs.Demand.{Run, onward, runs, fresh, Lends, settledOf}
 use Rattle.model.specs.Schemes.{Alike, Twins, Idle, ofSingles}
+use Rattle.model.specs.declared.Scheme.the-variants.{Blocking}
+use Rattle.model.proofs.Chain.{all-mem}
 use Rattle.model.proofs.Agreeing.{schemes-agree}
+use Rattle.model.proofs.Blocking.{Independent, blocking-independent}
 use Rattle.record.specs.declared.Record.{Record}
 use Rattle.record.specs.View.{view}
 use Rattle.engine.specs.Called.{stepped, called}
-use Rattle.engine.specs.Carried.{Words, returned, roomOf, answerAt, RecordRun, onwardR, runsR, freshR, LendsR}
+use Rattle.engine.specs.Carried.{Words, returned, roomOf, answerAt, answerOf, RecordRun, onwardR, runsR, freshR, LendsR}
 use Rattle.engine.specs.Agreed.{TwinsR, IdleR, answersFrom, answersOf, RecordSchemesAgree}
-use Rattle.engine.proofs.Carrying.{meant, noAnswer, answer-is, reached, lent}
+use Rattle.engine.proofs.Carrying.{meant, noAnswer, answer-is, answer-sent, reached, lent}
 use Rattle.engine.proofs.Viewed.{view-count, view-waits}
 
 -- the answers read from the room are the model's
@@ -71,3 +74,7 @@ agreed cs = record {
   cells = agreed-cells cs;
   singles = agreed-singles cs;
 }
+
+-- By blocking no answer in the room depends on anything, from any record
+pub blocking-plain : (r : Record) (c : Call) → c .scheme ≡ Blocking → Words (c .event) → (i : ℕ) → i < returned r c .answers → answerOf r c i .dependence ≡ 0
+blocking-plain r c b w i lt = all-mem Independent (step (view r) c .answers) (blocking-independent (view r) c b) (answerOf r c i) (answer-sent r c i w lt)

@@ -13,6 +13,7 @@ pub mod Sound
 pub mod Keeping
 pub mod Kept
 pub mod Agreeing
+pub mod Blocking
 pub mod Running
 pub mod Codes
 pub mod Unique
