@@ -5,11 +5,15 @@ use mathlib.Core.Path.{_≡_, refl, sym, ap, _∙_}
 use mathlib.Core.List.{List, [], _∷_, _++_}
 use lib.ListN.{length, take, replicate}
 use lib.Seq.{sets, length-sets}
+use Rattle.model.specs.declared.Scheme.{Scheme}
 use Rattle.trace.specs.declared.Shape.{Shape}
 use Rattle.trace.specs.declared.Shape.the-variants.{Bad, Trace}
 use Rattle.trace.specs.Format.{shapeOf}
-use Rattle.trace.specs.Text.{lineE, badTrace}
-use Rattle.replay.specs.Printed.{Lines, linesFrom, answerLines, eventLines, traceLines, linesAs, linesOf, laid}
+use Rattle.trace.specs.Text.{lineE, badTrace, badScheme}
+use Rattle.replay.specs.Printed.{Lines, linesFrom, answerLines, eventLines, traceLines, linesAs, linesOf, linesBy, linesFor, laid}
+use Rattle.replay.specs.Chosen.{schemeOf}
+use Rattle.replay.specs.declared.Choice.{Choice}
+use Rattle.replay.specs.declared.Choice.the-variants.{By, Unknown}
 
 pub laid-append : (ls ms : Lines) (b : List ℕ) → laid (ls ++ ms) b ≡ laid ms (laid ls b)
 unfolding laid
@@ -48,16 +52,26 @@ take-zeros zero (suc n) h = absurd (omega arith)
 take-zeros (suc m) (suc n) h = ap (λ (x : List ℕ). 0 ∷ x) (take-zeros m n (omega arith))
 
 -- all that is printed, by the shape of what was read
-module _ (bytes b b′ : List ℕ) where
-  pub bad-laid : Bad ≡ shapeOf bytes → b′ ≡ sets b 0 badTrace → b′ ≡ laid (linesOf bytes) b
+module _ (σ : Scheme) (bytes b b′ : List ℕ) where
+  pub bad-laid : Bad ≡ shapeOf bytes → b′ ≡ sets b 0 badTrace → b′ ≡ laid (linesOf σ bytes) b
   unfolding linesOf laid
-  bad-laid es eb = eb ∙ ap (λ (s : Shape). laid (linesAs bytes s) b) es
+  bad-laid es eb = eb ∙ ap (λ (s : Shape). laid (linesAs σ bytes s) b) es
 
-  pub good-laid : (count events first : ℕ) → Trace count events first ≡ shapeOf bytes → b′ ≡ laid (traceLines bytes count events first (replicate count 0) (replicate 1024 0)) b → b′ ≡ laid (linesOf bytes) b
+  pub good-laid : (count events first : ℕ) → Trace count events first ≡ shapeOf bytes → b′ ≡ laid (traceLines σ bytes count events first (replicate count 0) (replicate 1024 0)) b → b′ ≡ laid (linesOf σ bytes) b
   unfolding linesOf
-  good-laid count events first es eb = eb ∙ ap (λ (s : Shape). laid (linesAs bytes s) b) es
+  good-laid count events first es eb = eb ∙ ap (λ (s : Shape). laid (linesAs σ bytes s) b) es
+
+-- the same, by what the command's word chooses
+module _ (word bytes b b′ : List ℕ) where
+  pub scheme-laid : (σ : Scheme) → By σ ≡ schemeOf word → b′ ≡ laid (linesOf σ bytes) b → b′ ≡ laid (linesFor word bytes) b
+  unfolding linesFor
+  scheme-laid σ ec eb = eb ∙ ap (λ (c : Choice). laid (linesBy c bytes) b) ec
+
+  pub unknown-laid : Unknown ≡ schemeOf word → b′ ≡ sets b 0 badScheme → b′ ≡ laid (linesFor word bytes) b
+  unfolding linesFor laid
+  unknown-laid ec eb = eb ∙ ap (λ (c : Choice). laid (linesBy c bytes) b) ec
 
 -- "It starts from cells cleared to 0": of 4,096 as many as the trace has are lent
-pub cleared-laid : (bytes : List ℕ) (count events first : ℕ) (b b′ : List ℕ) → count ≤ 4096 → b′ ≡ laid (traceLines bytes count events first (take count (replicate 4096 0)) (replicate 1024 0)) b
-    → b′ ≡ laid (traceLines bytes count events first (replicate count 0) (replicate 1024 0)) b
-cleared-laid bytes count events first b b′ h eb = eb ∙ ap (λ (x : List ℕ). laid (traceLines bytes count events first x (replicate 1024 0)) b) (take-zeros 4096 count h)
+pub cleared-laid : (σ : Scheme) (bytes : List ℕ) (count events first : ℕ) (b b′ : List ℕ) → count ≤ 4096 → b′ ≡ laid (traceLines σ bytes count events first (take count (replicate 4096 0)) (replicate 1024 0)) b
+    → b′ ≡ laid (traceLines σ bytes count events first (replicate count 0) (replicate 1024 0)) b
+cleared-laid σ bytes count events first b b′ h eb = eb ∙ ap (λ (x : List ℕ). laid (traceLines σ bytes count events first x (replicate 1024 0)) b) (take-zeros 4096 count h)

@@ -4,7 +4,7 @@ use mathlib.Core.List.{List}
 use lib.Seq.{sets}
 use Rattle.model.specs.Operations.{Cells}
 use Rattle.model.specs.declared.Event.{Event}
-use Rattle.model.specs.declared.Scheme.the-variants.{Speculation}
+use Rattle.model.specs.declared.Scheme.{Scheme}
 use Rattle.record.specs.declared.Record.{Record}
 use Rattle.engine.specs.Called.{called, cellsAfter, roomAfter, freshOf}
 use Rattle.trace.specs.Format.{wordsFrom, eventAt}
@@ -18,14 +18,14 @@ pub record Kept : Type 0 where
 abbrev pub kept : Record → Cells → List ℕ → Kept
 kept r cells room = record { next = r; cells = cells; room = room }
 
--- one event
-unfoldable pub taken : Event → Kept → Kept
-taken v k = kept (called Speculation (k .next) v (k .cells) (k .room) .next) (cellsAfter Speculation (k .next) v (k .cells) (k .room)) (roomAfter Speculation (k .next) v (k .cells) (k .room))
+-- one event, by a scheme
+unfoldable pub taken : Scheme → Event → Kept → Kept
+taken σ v k = kept (called σ (k .next) v (k .cells) (k .room) .next) (cellsAfter σ (k .next) v (k .cells) (k .room)) (roomAfter σ (k .next) v (k .cells) (k .room))
 
 -- n events in order, the first at word b
-unfoldable pub played : List ℕ → ℕ → ℕ → Kept → Kept
-played bytes b zero k = k
-played bytes b (suc n) k = played bytes (b + 29) n (taken (eventAt bytes b) k)
+unfoldable pub played : Scheme → List ℕ → ℕ → ℕ → Kept → Kept
+played σ bytes b zero k = k
+played σ bytes b (suc n) k = played σ bytes (b + 29) n (taken σ (eventAt bytes b) k)
 
 -- "copies the trace's numbers over them", and starts
 unfoldable pub begun : List ℕ → ℕ → Cells → List ℕ → Kept

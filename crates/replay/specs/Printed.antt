@@ -1,16 +1,19 @@
--- Document 01, "The trace program": all lines that it prints for the bytes that it read, in order.
+-- Document 01, "The trace program": all lines that it prints for the word of its command and the bytes that it read, in order.
 use Prim.Native.Nat.{ℕ, zero, suc, _+_}
 use mathlib.Core.List.{List, [], _∷_, _++_}
 use lib.ListN.{getD, replicate}
 use lib.Seq.{sets}
 use Rattle.model.specs.Operations.{Cells}
-use Rattle.model.specs.declared.Scheme.the-variants.{Speculation}
+use Rattle.model.specs.declared.Scheme.{Scheme}
 use Rattle.engine.specs.declared.Called.{Called}
 use Rattle.engine.specs.Called.{called, roomAfter}
 use Rattle.trace.specs.declared.Shape.{Shape}
 use Rattle.trace.specs.declared.Shape.the-variants.{Bad, Trace}
 use Rattle.trace.specs.Format.{eventAt, shapeOf}
-use Rattle.trace.specs.Text.{lineE, lineA, lineC, badTrace}
+use Rattle.trace.specs.Text.{lineE, lineA, lineC, badTrace, badScheme}
+use Rattle.replay.specs.declared.Choice.{Choice}
+use Rattle.replay.specs.declared.Choice.the-variants.{By, Unknown}
+use Rattle.replay.specs.Chosen.{schemeOf}
 use Rattle.replay.specs.Played.{Kept, taken, played, begun}
 
 abbrev pub Lines : Type 0
@@ -30,30 +33,38 @@ unfoldable pub eventLines : ℕ → ℕ → ℕ → List ℕ → Lines
 eventLines position number answers room = lineE position number ∷ answerLines room answers
 
 -- n events in order, the first at word b, the line of which has this position
-unfoldable pub eventsLines : List ℕ → ℕ → ℕ → ℕ → Kept → Lines
-eventsLines bytes position b zero k = []
-eventsLines bytes position b (suc n) k =
+unfoldable pub eventsLines : Scheme → List ℕ → ℕ → ℕ → ℕ → Kept → Lines
+eventsLines σ bytes position b zero k = []
+eventsLines σ bytes position b (suc n) k =
     let v = eventAt bytes b in
-    let d = called Speculation (k .next) v (k .cells) (k .room) in
-    eventLines position (d .number) (d .answers) (roomAfter Speculation (k .next) v (k .cells) (k .room)) ++ eventsLines bytes (position + 1) (b + 29) n (taken v k)
+    let d = called σ (k .next) v (k .cells) (k .room) in
+    eventLines position (d .number) (d .answers) (roomAfter σ (k .next) v (k .cells) (k .room)) ++ eventsLines σ bytes (position + 1) (b + 29) n (taken σ v k)
 
 -- "and at the end `c` cell and content for each cell": the first n
 abbrev pub cellLines : Cells → ℕ → Lines
 cellLines cells n = linesFrom (λ (i : ℕ). lineC i (getD cells i 0)) 0 n
 
 -- a trace of this many cells and events, the first event at word b, from these cells and this room
-unfoldable pub traceLines : List ℕ → ℕ → ℕ → ℕ → Cells → List ℕ → Lines
-traceLines bytes count events b cells room =
+unfoldable pub traceLines : Scheme → List ℕ → ℕ → ℕ → ℕ → Cells → List ℕ → Lines
+traceLines σ bytes count events b cells room =
     let k = begun bytes count cells room in
-    eventsLines bytes 1 b events k ++ cellLines (played bytes b events k .cells) count
+    eventsLines σ bytes 1 b events k ++ cellLines (played σ bytes b events k .cells) count
 
 -- "It starts from cells cleared to 0"; "Else it prints `bad trace` alone."
-abbrev pub linesAs : List ℕ → Shape → Lines
-linesAs bytes Bad = badTrace ∷ []
-linesAs bytes (Trace count events b) = traceLines bytes count events b (replicate count 0) (replicate 1024 0)
+abbrev pub linesAs : Scheme → List ℕ → Shape → Lines
+linesAs σ bytes Bad = badTrace ∷ []
+linesAs σ bytes (Trace count events b) = traceLines σ bytes count events b (replicate count 0) (replicate 1024 0)
 
-unfoldable pub linesOf : List ℕ → Lines
-linesOf bytes = linesAs bytes (shapeOf bytes)
+unfoldable pub linesOf : Scheme → List ℕ → Lines
+linesOf σ bytes = linesAs σ bytes (shapeOf bytes)
+
+-- by what the command's word chooses; `bad scheme` alone where it names none, whatever was read
+abbrev pub linesBy : Choice → List ℕ → Lines
+linesBy (By σ) bytes = linesOf σ bytes
+linesBy Unknown bytes = badScheme ∷ []
+
+unfoldable pub linesFor : List ℕ → List ℕ → Lines
+linesFor word bytes = linesBy (schemeOf word) bytes
 
 -- what a buffer holds after lines were put at its start, one after the other
 unfoldable pub laid : Lines → List ℕ → List ℕ

@@ -8,7 +8,7 @@ use lib.Seq.{sets}
 use Rattle.model.specs.declared.Event.{Event}
 use Rattle.trace.specs.declared.Shape.{Shape}
 use Rattle.trace.specs.Format.{wordAt, wordsFrom, eventAt, shapeOf}
-use Rattle.trace.specs.Text.{decimal, lineE, lineA, lineC, badTrace}
+use Rattle.trace.specs.Text.{decimal, lineE, lineA, lineC, badTrace, badScheme}
 
 pub word-unique : (bytes : List ℕ) (i : ℕ) (a b : ℕ) → a ≡ wordAt bytes i → b ≡ wordAt bytes i → a ≡ b
 word-unique bytes i a b p0 q0 = same (wordAt bytes i) a b p0 q0
@@ -36,3 +36,6 @@ put-c-unique buffer at cell content a b c d p0 q0 p1 q1 = (same (at + length (li
 
 pub put-bad-unique : (buffer : List ℕ) (at : ℕ) (a b : ℕ) (c d : List ℕ) → a ≡ at + length (badTrace) → b ≡ at + length (badTrace) → c ≡ sets buffer at (badTrace) → d ≡ sets buffer at (badTrace) → (a ≡ b) × (c ≡ d)
 put-bad-unique buffer at a b c d p0 q0 p1 q1 = (same (at + length (badTrace)) a b p0 q0, same (sets buffer at (badTrace)) c d p1 q1)
+
+pub put-bad-scheme-unique : (buffer : List ℕ) (at : ℕ) (a b : ℕ) (c d : List ℕ) → a ≡ at + length (badScheme) → b ≡ at + length (badScheme) → c ≡ sets buffer at (badScheme) → d ≡ sets buffer at (badScheme) → (a ≡ b) × (c ≡ d)
+put-bad-scheme-unique buffer at a b c d p0 q0 p1 q1 = (same (at + length (badScheme)) a b p0 q0, same (sets buffer at (badScheme)) c d p1 q1)

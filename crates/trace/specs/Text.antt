@@ -59,3 +59,7 @@ lineC cell content = lineFrom 99 (cell ∷ content ∷ []) 0 2
 -- "Else it prints `bad trace` alone."
 abbrev pub badTrace : List ℕ
 badTrace = 98 ∷ 97 ∷ 100 ∷ 32 ∷ 116 ∷ 114 ∷ 97 ∷ 99 ∷ 101 ∷ 10 ∷ []
+
+-- `bad scheme` alone, where the command's word names none
+abbrev pub badScheme : List ℕ
+badScheme = 98 ∷ 97 ∷ 100 ∷ 32 ∷ 115 ∷ 99 ∷ 104 ∷ 101 ∷ 109 ∷ 101 ∷ 10 ∷ []

@@ -5,7 +5,7 @@ ghost use Prim.Native.Nat.{_+_, _*_, _<_, _≤_};
 ghost use lib.ListN.{length, getD, set};
 ghost use lib.Seq.{sets};
 ghost use Rattle.trace.specs.Format.{wordAt, wordsFrom, opAt, eventAt, shapeOf};
-ghost use Rattle.trace.specs.Text.{decimal, fieldsFrom, lineFrom, lineE, lineA, lineC, badTrace};
+ghost use Rattle.trace.specs.Text.{decimal, fieldsFrom, lineFrom, lineE, lineA, lineC, badTrace, badScheme};
 use model::Event;
 use model::Fragment;
 use model::Op;
@@ -277,6 +277,13 @@ pub fn put_bad(buffer: &mut [u8], at: u32) -> usize
     ensures { λ r. ⌜ r ≡ at + length badTrace ⌝ }
     ensures { λ r. ⌜ now (buffer .exit) ≡ sets (now (buffer .entry)) at badTrace ⌝ }
 {
-    let text = [b'b', b'a', b'd', b' ', b't', b'r', b'a', b'c', b'e', b'\n'];
-    put_text(buffer, at, &text)
+    put_text(buffer, at, b"bad trace\n")
+}
+
+// `bad scheme` alone, where the command's word names none.
+pub fn put_bad_scheme(buffer: &mut [u8], at: u32) -> usize
+    ensures { λ r. ⌜ r ≡ at + length badScheme ⌝ }
+    ensures { λ r. ⌜ now (buffer .exit) ≡ sets (now (buffer .entry)) at badScheme ⌝ }
+{
+    put_text(buffer, at, b"bad scheme\n")
 }

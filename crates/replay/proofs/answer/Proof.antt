@@ -43,7 +43,7 @@ same-length c = search needs
 returns : tie.Need-returns
 returns c h =
     let a = c .before .before .before .before .before .before .before .before .before .args in
-    bad-laid (a .bytes .now) (a .line .now) _ (sym (c .before .before .before .before .enum-told .given .1) ∙ c .before .before .before .before .before .before .shape-of .ensures) (c .before .before .print-bad .ensures)
+    bad-laid (a .scheme) (a .bytes .now) (a .line .now) _ (sym (c .before .before .before .before .enum-told .given .1) ∙ c .before .before .before .before .before .before .shape-of .ensures) (c .before .before .print-bad .ensures)
 
 -- src/main.rt:180:1
 same-length-2 : tie.Need-same-length-2
@@ -54,7 +54,7 @@ returns-2 : tie.Need-returns-2
 returns-2 c h =
     let a = c .before .before .before .before .before .before .before .before .before .before .args in
     let g = c .before .before .before .before .before .cells .given in
-    good-laid (a .bytes .now) (a .line .now) _ (g .0 .0) (g .0 .1 .0) (g .0 .1 .1 .0) (sym (g .1) ∙ c .before .before .before .before .before .before .before .shape-of .ensures) (c .before .before .run .ensures h)
+    good-laid (a .scheme) (a .bytes .now) (a .line .now) _ (g .0 .0) (g .0 .1 .0) (g .0 .1 .1 .0) (sym (g .1) ∙ c .before .before .before .before .before .before .before .shape-of .ensures) (c .before .before .run .ensures h)
 
 pub answer-spec : {M : Type 1} → statement M
 answer-spec =

@@ -1,4 +1,5 @@
 use Prim.Native.Nat.{_+_, _-_, _*_}
+use native.Mathlib.Omega.{arith}
 use mathlib.Core.Path.{_≡_, refl}
 use lib.ListN.{length}
 use borrow.Author.Needs.{needs}
@@ -9,25 +10,25 @@ use Rattle.replay.proofs.play.Statement.{statement}
 use Rattle.replay.proofs.play.Tie as tie
 use Rattle.replay.proofs.play.Reads as reads
 use Rattle.replay.proofs.play.Lts as lts
-use Rattle.engine.proofs.call.Reads as call-reads
+use Rattle.engine.proofs.call_by.Reads as call-by-reads
 use Rattle.replay.proofs.print_event.Reads as print-event-reads
 use Rattle.trace.proofs.event_at.Reads as event-at-reads
 
 abbrev Inv-loop : tie.InvT-loop
-Inv-loop bytes first events cells₀ room₀ line₀ record₀ i₀ cells room line «record» i =
-    (played bytes (first + 29 * i) (events - i) (kept «record» cells room) ≡ played bytes first events (kept record₀ cells₀ room₀))
-    × (laid (eventsLines bytes (i + 1) (first + 29 * i) (events - i) (kept «record» cells room)) line ≡ laid (eventsLines bytes 1 first events (kept record₀ cells₀ room₀)) line₀)
+Inv-loop scheme bytes first events cells₀ room₀ line₀ record₀ i₀ cells room line «record» i =
+    (played scheme bytes (first + 29 * i) (events - i) (kept «record» cells room) ≡ played scheme bytes first events (kept record₀ cells₀ room₀))
+    × (laid (eventsLines scheme bytes (i + 1) (first + 29 * i) (events - i) (kept «record» cells room)) line ≡ laid (eventsLines scheme bytes 1 first events (kept record₀ cells₀ room₀)) line₀)
     × (length cells ≡ length cells₀) × (length room ≡ length room₀) × (length line ≡ length line₀)
 
 abbrev μ-loop : tie.MeasureT-loop
-μ-loop bytes first events cells₀ room₀ line₀ record₀ i₀ cells room line «record» i = events - i
+μ-loop scheme bytes first events cells₀ room₀ line₀ record₀ i₀ cells room line «record» i = events - i
 
 -- src/main.rt:120:5
 loop-holds : tie.Need-loop-holds Inv-loop μ-loop
 loop-holds c =
     let a = c .before .before .before .before .args in
     let k = kept (a .start) (a .cells .now) (a .room .now) in
-    (play-start (a .bytes .now) (a .first) (a .events) 0 k refl, print-start (a .bytes .now) (a .first) (a .events) 0 k (a .line .now) refl, refl, refl, refl)
+    (play-start (a .scheme) (a .bytes .now) (a .first) (a .events) 0 k refl, print-start (a .scheme) (a .bytes .now) (a .first) (a .events) 0 k (a .line .now) refl, refl, refl, refl)
 
 -- src/main.rt:121:52
 mul-event-at : tie.Need-mul-event-at Inv-loop μ-loop
@@ -42,8 +43,8 @@ event-at-requires : tie.Need-event-at-requires Inv-loop μ-loop
 event-at-requires c κs = search needs
 
 -- src/main.rt:122:13
-call-requires : tie.Need-call-requires Inv-loop μ-loop
-call-requires c κs = search needs
+call-by-requires : tie.Need-call-by-requires Inv-loop μ-loop
+call-by-requires c κs = search needs
 
 -- src/main.rt:123:31
 add-print-event : tie.Need-add-print-event Inv-loop μ-loop
@@ -71,7 +72,7 @@ returns c = (λ h. absurd (false-true h), λ h. absurd (false-true h))
 
 -- src/main.rt:128:13
 add-i : tie.Need-add-i Inv-loop μ-loop
-add-i c = search needs
+add-i c = omega (arith, c .before .before .before .before .before .before .before .before .before .before .before .before .before .before .before .loop-test .taken, c .before .before .before .before .before .before .before .before .before .before .before .before .before .before .before .before .before .before .before .before .before .pre .1 .0)
 
 -- src/main.rt:120:5
 loop-less : tie.Need-loop-less Inv-loop μ-loop
@@ -83,9 +84,9 @@ loop-again c =
     let a = c .before .before .before .before .before .before .before .before .before .before .before .before .before .before .before .before .before .before .before .before .before .args in
     let l = c .before .before .before .before .before .before .before .before .before .before .before .before .before .before .before .before .loop in
     let v = c .before .before .before .before .before .before .before .before .before .before .before .before .before .before .event-at in
-    let d = c .before .before .before .before .before .before .before .before .before .before .before .call in (
-      play-turn (a .bytes .now) (a .first) (a .events) (l .i) (l .«record») (l .cells) (l .room) (played (a .bytes .now) (a .first) (a .events) (kept (a .start) (a .cells .now) (a .room .now))) (l .inv .0) (v .result) (d .result) (d .last .1 .0) (d .last .1 .1 .1 .0) (c .before .before .before .before .before .before .before .before .before .before .before .before .before .before .before .loop-test .taken) (v .ensures) (d .ensures .0) (d .ensures .1 .0) (d .ensures .1 .1),
-      print-turn (a .bytes .now) (a .first) (a .events) (l .i) (l .«record») (l .cells) (l .room) (l .line) _ (l .inv .1) (v .result) (d .result) (d .last .1 .0) (d .last .1 .1 .1 .0) _ (c .before .before .before .before .before .before .before .before .before .before .before .before .before .before .before .loop-test .taken) (v .ensures) (d .ensures .0) (d .ensures .1 .0) (d .ensures .1 .1) (c .before .before .before .before .print-event .ensures (so _ (c .before .if1 .left))),
+    let d = c .before .before .before .before .before .before .before .before .before .before .before .call-by in (
+      play-turn (a .scheme) (a .bytes .now) (a .first) (a .events) (l .i) (l .«record») (l .cells) (l .room) (played (a .scheme) (a .bytes .now) (a .first) (a .events) (kept (a .start) (a .cells .now) (a .room .now))) (l .inv .0) (v .result) (d .result) (d .last .1 .1 .0) (d .last .1 .1 .1 .1 .0) (c .before .before .before .before .before .before .before .before .before .before .before .before .before .before .before .loop-test .taken) (v .ensures) (d .ensures .0) (d .ensures .1 .0) (d .ensures .1 .1),
+      print-turn (a .scheme) (a .bytes .now) (a .first) (a .events) (l .i) (l .«record») (l .cells) (l .room) (l .line) _ (l .inv .1) (v .result) (d .result) (d .last .1 .1 .0) (d .last .1 .1 .1 .1 .0) _ (c .before .before .before .before .before .before .before .before .before .before .before .before .before .before .before .loop-test .taken) (v .ensures) (d .ensures .0) (d .ensures .1 .0) (d .ensures .1 .1) (c .before .before .before .before .print-event .ensures (so _ (c .before .if1 .left))),
       search needs,
       search needs,
       search needs,
@@ -108,8 +109,8 @@ returns-2 : tie.Need-returns-2 Inv-loop μ-loop
 returns-2 c =
     let a = c .before .before .before .before .before .before .args in
     let l = c .before .loop in (
-      λ h. play-end (a .bytes .now) (a .first) (a .events) (l .i) (l .«record») (l .cells) (l .room) (played (a .bytes .now) (a .first) (a .events) (kept (a .start) (a .cells .now) (a .room .now))) (l .inv .0) (c .loop-test .left),
-      λ h. print-end (a .bytes .now) (a .first) (a .events) (l .i) (l .«record») (l .cells) (l .room) (l .line) _ (l .inv .1) (c .loop-test .left),
+      λ h. play-end (a .scheme) (a .bytes .now) (a .first) (a .events) (l .i) (l .«record») (l .cells) (l .room) (played (a .scheme) (a .bytes .now) (a .first) (a .events) (kept (a .start) (a .cells .now) (a .room .now))) (l .inv .0) (c .loop-test .left),
+      λ h. print-end (a .scheme) (a .bytes .now) (a .first) (a .events) (l .i) (l .«record») (l .cells) (l .room) (l .line) _ (l .inv .1) (c .loop-test .left),
     )
 
 pub play-spec : {M : Type 1} → statement M
@@ -122,7 +123,7 @@ play-spec =
     mul-event-at
     add-event-at
     event-at-requires
-    call-requires
+    call-by-requires
     add-print-event
     print-event-requires
     same-length

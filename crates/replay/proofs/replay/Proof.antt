@@ -60,7 +60,7 @@ returns-2 c h =
     let fresh = c .before .before .before .before .before .before .before .before .before .before .before .before .before .before .before .before .before .start in
     let p = c .before .before .before .before .before .before .before .before .before .before .before .before .play in
     let r = so _ (c .before .before .before .before .before .if1 .left) in
-    trace-laid (a .bytes .now) (a .first) (a .events) (a .count) (a .cells .now) _ _ (a .room .now) (a .line .now) _ _ (fresh .result) (fresh .ensures) (c .before .before .before .before .before .before .before .before .before .before .before .before .before .before .before .before .before .before .before .before .copy-cells .ensures) (p .ensures .0 r) (p .ensures .1 r) (c .before .before .print-cells .ensures h)
+    trace-laid (a .scheme) (a .bytes .now) (a .first) (a .events) (a .count) (a .cells .now) _ _ (a .room .now) (a .line .now) _ _ (fresh .result) (fresh .ensures) (c .before .before .before .before .before .before .before .before .before .before .before .before .before .before .before .before .before .before .before .before .copy-cells .ensures) (p .ensures .0 r) (p .ensures .1 r) (c .before .before .print-cells .ensures h)
 
 pub replay-spec : {M : Type 1} → statement M
 replay-spec =

@@ -32,7 +32,7 @@ same-length c = search needs
 returns : tie.Need-returns
 returns c h =
     let a = c .before .before .before .before .before .before .before .before .before .before .args in
-    cleared-laid (a .bytes .now) (a .count) (a .events) (a .first) (a .line .now) _ (c .before .before .before .before .before .before .before .before .before .before .pre .0) (c .before .before .before .before .replay .ensures h)
+    cleared-laid (a .scheme) (a .bytes .now) (a .count) (a .events) (a .first) (a .line .now) _ (c .before .before .before .before .before .before .before .before .before .before .pre .0) (c .before .before .before .before .replay .ensures h)
 
 pub run-spec : {M : Type 1} → statement M
 run-spec =
