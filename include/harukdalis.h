@@ -127,7 +127,7 @@ typedef char harukdalis_record_is_9680_bytes[sizeof(harukdalis_record) == HARUKD
 uint32_t harukdalis_start(harukdalis_record *record, uint32_t cells);
 
 /*
- * Hands one event to the partition and takes it as far as it goes.
+ * Hands one event to the partition and takes it as far as it goes, by speculation.
  *
  * record   read; written if the event is accepted. Start it once, then lend the same one each time.
  * cells    read; written if the event is accepted. Lend the cells that the last accepted call left, cell_count of them
@@ -145,6 +145,20 @@ uint32_t harukdalis_call(harukdalis_record *record,
                          const uint32_t *event, size_t event_words,
                          uint32_t *room, size_t room_words,
                          uint32_t *answers);
+
+/*
+ * The same by blocking: waiting ones run only while nothing is uncommitted. No answer that it sends has a dependence.
+ * All that is said above holds of it too.
+ *
+ * A record keeps no scheme, so any call on it may be either one. The same events from the same start bring the same
+ * returned numbers by both, the same answers to singles in the same calls, and the same cells whenever nothing is live;
+ * the answers of multis may differ. docs/INTEGRATION.md says when to take which.
+ */
+uint32_t harukdalis_call_blocking(harukdalis_record *record,
+                                  uint32_t *cells, size_t cell_count,
+                                  const uint32_t *event, size_t event_words,
+                                  uint32_t *room, size_t room_words,
+                                  uint32_t *answers);
 
 /*
  * The constants that the linked archive was built with, so that a host can compare them with this header's before its

@@ -1,6 +1,6 @@
 //! The engine with its record, and the room for its answers.
 
-use crate::{linked, Answers, Event, Record, Refusal, LEAST_ROOM};
+use crate::{linked, Answers, Event, Record, Refusal, Scheme, LEAST_ROOM};
 
 /// The engine of one partition. It owns its record; the cells and the room are lent to each call.
 ///
@@ -37,21 +37,66 @@ impl Engine {
         *self.record
     }
 
-    /// Hands one event to the partition. The answers stay in the room until it is lent again.
+    /// Hands one event to the partition, by speculation. The answers stay in the room until it is lent again.
     ///
     /// A refusal leaves the engine, the cells and the room as they were.
     pub fn call<'r>(&mut self, cells: &mut [u32], event: &Event, room: &'r mut Room) -> Result<Answers<'r>, Refusal> {
-        let count = self.call_words(cells, &event.words(), &mut room.words[..])?;
+        self.call_by(Scheme::Speculation, cells, event, room)
+    }
+
+    /// The same by a scheme. Any call may name another one than the call before it.
+    ///
+    /// ```
+    /// use harukdalis::{Engine, Event, Op, Outcome, Refusal, Room, Scheme};
+    ///
+    /// let (mut engine, mut cells, mut room) = (Engine::start(1)?, [5], Room::new());
+    /// let reserve = |number| Event::multi(number, 1, true, &[Op::take(0, 1)]);
+    ///
+    /// // By blocking the second reservation waits until the first is decided.
+    /// engine.call_by(Scheme::Blocking, &mut cells, &reserve(1), &mut room)?;
+    /// assert_eq!(engine.call_by(Scheme::Blocking, &mut cells, &reserve(2), &mut room)?.len(), 0);
+    /// assert_eq!(cells, [4]);
+    ///
+    /// // It is the front when the first is aborted, and is answered then; by speculation it would have been undone.
+    /// let mut answers = engine.call_by(Scheme::Blocking, &mut cells, &Event::abort(1), &mut room)?;
+    /// let answer = answers.next().unwrap();
+    /// assert_eq!((answer.transaction(), answer.dependence()), (2, None));
+    /// assert_eq!(answer.outcome(), Outcome::Numbers(&[4]));
+    ///
+    /// // From here on the depot speculates: a third one runs behind the second.
+    /// let mut answers = engine.call_by(Scheme::Speculation, &mut cells, &reserve(3), &mut room)?;
+    /// assert_eq!(answers.next().unwrap().dependence(), Some(2));
+    /// # Ok::<(), Refusal>(())
+    /// ```
+    pub fn call_by<'r>(
+        &mut self,
+        scheme: Scheme,
+        cells: &mut [u32],
+        event: &Event,
+        room: &'r mut Room,
+    ) -> Result<Answers<'r>, Refusal> {
+        let count = self.call_words_by(scheme, cells, &event.words(), &mut room.words[..])?;
         Ok(Answers::in_room(&room.words[..], count))
     }
 
-    /// The same on words of any lengths: the count of answers that fill the room from its start. [`Answers::in_room`]
-    /// reads them.
+    /// [`Engine::call`] on words of any lengths: the count of answers that fill the room from its start.
+    /// [`Answers::in_room`] reads them.
     ///
     /// An event of another length than [`crate::EVENT_WORDS`] is refused by [`Refusal::NotWellFormed`], a room under
     /// [`LEAST_ROOM`] words by [`Refusal::SmallRoom`].
     pub fn call_words(&mut self, cells: &mut [u32], event: &[u32], room: &mut [u32]) -> Result<usize, Refusal> {
-        let (number, answers) = linked::call(&mut self.record, cells, event, room);
+        self.call_words_by(Scheme::Speculation, cells, event, room)
+    }
+
+    /// The same by a scheme.
+    pub fn call_words_by(
+        &mut self,
+        scheme: Scheme,
+        cells: &mut [u32],
+        event: &[u32],
+        room: &mut [u32],
+    ) -> Result<usize, Refusal> {
+        let (number, answers) = linked::call(scheme, &mut self.record, cells, event, room);
         accepted(number)?;
         Ok(answers as usize)
     }

@@ -37,6 +37,9 @@
 //! # Ok::<(), Refusal>(())
 //! ```
 //!
+//! A depot with many aborts may want the other [`Scheme`], blocking, in which nothing runs behind an undecided multi:
+//! [`Engine::call_by`].
+//!
 //! What this wrapper adds to the C boundary is that it cannot be called wrongly: lengths and pointers come from Rust's
 //! own borrows, which never overlap, and a [`Room`] is never too small. It decides nothing itself. What an event is
 //! worth is the engine's to say, so a constructor takes any values, and [`Engine::call`] refuses those that are not
@@ -54,12 +57,14 @@ mod event;
 pub mod linked;
 mod record;
 mod refusal;
+mod scheme;
 
 pub use answer::{Answer, Answers, Outcome};
 pub use engine::{Engine, Room};
 pub use event::{Event, Op};
 pub use record::Record;
 pub use refusal::Refusal;
+pub use scheme::Scheme;
 
 /// The largest content of a cell, amount of an operation and number of a transaction.
 pub const TOP: u32 = 4_294_967_295;

@@ -1,13 +1,24 @@
-//! The functions of the linked archive, and the only unsafe code of this crate: one block for each of them.
+//! The functions of the linked archive, and the only unsafe code of this crate: one block for each of them, but one for
+//! both calls.
 //!
 //! The public ones tell the constants that the archive was built with, as numbers of this crate's constants.
 #![allow(unsafe_code)]
 
-use crate::Record;
+use crate::{Record, Scheme};
 
 extern "C" {
     fn harukdalis_start(record: *mut Record, cells: u32) -> u32;
     fn harukdalis_call(
+        record: *mut Record,
+        cells: *mut u32,
+        cell_count: usize,
+        event: *const u32,
+        event_words: usize,
+        room: *mut u32,
+        room_words: usize,
+        answers: *mut u32,
+    ) -> u32;
+    fn harukdalis_call_blocking(
         record: *mut Record,
         cells: *mut u32,
         cell_count: usize,
@@ -32,7 +43,17 @@ pub(crate) fn start(record: &mut Record, cells: u32) -> u32 {
 }
 
 /// Hands over one event, and gives the returned number and the count of answers.
-pub(crate) fn call(record: &mut Record, cells: &mut [u32], event: &[u32], room: &mut [u32]) -> (u32, u32) {
+pub(crate) fn call(
+    scheme: Scheme,
+    record: &mut Record,
+    cells: &mut [u32],
+    event: &[u32],
+    room: &mut [u32],
+) -> (u32, u32) {
+    let call = match scheme {
+        Scheme::Speculation => harukdalis_call,
+        Scheme::Blocking => harukdalis_call_blocking,
+    };
     let mut answers = 0;
     // SAFETY: each pointer comes from a live borrow or from a slice with its own length, so it is not null (an empty
     // slice's is dangling and aligned), is aligned, and points to as many words as said. The four areas that are
@@ -40,7 +61,7 @@ pub(crate) fn call(record: &mut Record, cells: &mut [u32], event: &[u32], room: 
     // the archive takes: every `Engine` was made by `start` or after `assert_same_record`. The engine checks all else
     // itself.
     let number = unsafe {
-        harukdalis_call(
+        call(
             record,
             cells.as_mut_ptr(),
             cells.len(),

@@ -1,6 +1,6 @@
 //! Cases of document 01 through the wrapper: what a shelf and its answers do.
 
-use harukdalis::{Engine, Event, Op, Outcome, Record, Refusal, Room, DEPTH, TOP};
+use harukdalis::{Engine, Event, Op, Outcome, Record, Refusal, Room, Scheme, DEPTH, TOP};
 
 /// An answer as transaction, dependence (0 for none), place (0 for none), numbers.
 type Told = (u32, u32, u32, Vec<u32>);
@@ -17,7 +17,11 @@ fn depot(cells: &[u32]) -> Depot {
 
 impl Depot {
     fn call(&mut self, event: Event) -> Result<Vec<Told>, Refusal> {
-        let answers = self.engine.call(&mut self.cells, &event, &mut self.room)?;
+        self.call_by(Scheme::Speculation, event)
+    }
+
+    fn call_by(&mut self, scheme: Scheme, event: Event) -> Result<Vec<Told>, Refusal> {
+        let answers = self.engine.call_by(scheme, &mut self.cells, &event, &mut self.room)?;
         let told = |outcome: Outcome<'_>| match outcome {
             Outcome::Failed { place } => (place, vec![]),
             Outcome::Numbers(numbers) => (0, numbers.to_vec()),
@@ -104,6 +108,91 @@ fn p7_p8_a_dependence_on_the_multi_ahead() {
     assert_eq!(depot.call(Event::commit(3)), Err(Refusal::NotFront));
     assert_eq!(depot.call(Event::commit(1)), one(2, 0, &[18]), "3 is not answered again");
     assert_eq!(depot.call(Event::commit(3)), one(4, 0, &[19]));
+}
+
+/// The events of P7 and P8 by blocking: no multi is answered before the one ahead of it commits.
+#[test]
+fn p7_p8_by_blocking_each_multi_is_answered_when_it_is_the_front() {
+    let mut depot = depot(&[5, 10]);
+    let mut call = |event| (depot.call_by(Scheme::Blocking, event), depot.cells[0]);
+    assert_eq!(call(Event::multi(1, 1, true, &[Op::set(0, 17)])), (one(1, 0, &[17]), 17));
+    assert_eq!(call(Event::single(2, &[Op::add(0, 1)])), (NONE, 17));
+    assert_eq!(call(Event::multi(3, 1, true, &[Op::add(0, 1)])), (NONE, 17));
+    assert_eq!(call(Event::multi(4, 2, true, &[Op::read(0)])), (NONE, 17));
+    assert_eq!(call(Event::commit(3)), (Err(Refusal::NotFront), 17));
+    assert_eq!(call(Event::commit(1)), (Ok(vec![(2, 0, 0, vec![18]), (3, 0, 0, vec![19])]), 19));
+    assert_eq!(call(Event::commit(3)), (one(4, 0, &[19]), 19));
+    let record = depot.engine.record();
+    assert_eq!((record.uncommitted, record.waiting), (1, 0));
+}
+
+/// Calls of both schemes on one record: what was speculated stays as it is, what waits goes on waiting.
+#[test]
+fn a_changeover_at_any_call() {
+    let mut depot = depot(&[5]);
+    let mut call = |scheme, event| {
+        let answers = depot.call_by(scheme, event);
+        let record = depot.engine.record();
+        (answers, depot.cells[0], record.uncommitted, record.waiting)
+    };
+    let add = |number| Event::multi(number, 1, true, &[Op::add(0, 1)]);
+    let (speculation, blocking) = (Scheme::Speculation, Scheme::Blocking);
+    assert_eq!(call(speculation, add(1)), (one(1, 0, &[6]), 6, 1, 0));
+    assert_eq!(call(speculation, add(2)), (one(2, 1, &[7]), 7, 2, 0));
+    assert_eq!(call(blocking, add(3)), (NONE, 7, 2, 1));
+    assert_eq!(call(blocking, Event::single(4, &[Op::add(0, 1)])), (NONE, 7, 2, 2));
+    // 2 is the front and was answered while the depot speculated; 3 and 4 wait for its decision.
+    assert_eq!(call(blocking, Event::commit(1)), (NONE, 7, 1, 2));
+    // Back again: all that waits runs in the next accepted call, whatever it brings; a refused one runs nothing.
+    assert_eq!(call(speculation, Event::commit(3)), (Err(Refusal::NotFront), 7, 1, 2));
+    let both = Ok(vec![(3, 2, 0, vec![8]), (5, 3, 0, vec![10])]);
+    assert_eq!(call(speculation, add(5)), (both, 10, 4, 0));
+    // An abort by blocking undoes and requeues all of them, and the next multi alone runs again.
+    assert_eq!(call(blocking, Event::abort(2)), (one(3, 0, &[7]), 7, 1, 2));
+    let last = Ok(vec![(4, 0, 0, vec![8]), (5, 0, 0, vec![9])]);
+    assert_eq!(call(blocking, Event::commit(3)), (last, 9, 1, 0));
+}
+
+/// A morning with aborts by either scheme, and by one and then the other: equal but for the answers of multis.
+#[test]
+fn both_schemes_settle_alike() {
+    let events = [
+        Event::multi(1, 1, false, &[Op::take(0, 1)]),
+        Event::single(2, &[Op::take(0, 3)]),
+        Event::multi(3, 1, true, &[Op::take(0, 2), Op::add(1, 2)]),
+        Event::multi(1, 1, true, &[Op::take(0, 1)]),
+        Event::single(4, &[Op::take(0, 1)]),
+        Event::commit(2),
+        Event::abort(1),
+        Event::multi(5, 2, true, &[Op::take(1, 13)]),
+        Event::commit(3),
+        Event::single(6, &[Op::read(0), Op::read(1)]),
+        Event::commit(5),
+        Event::abort(5),
+    ];
+    let singles = [2, 4, 6];
+    let run = |change: usize, first: Scheme, then: Scheme| {
+        let mut depot = depot(&[5, 10]);
+        let mut results = vec![];
+        for (at, &event) in events.iter().enumerate() {
+            let mut result = depot.call_by(if at < change { first } else { then }, event);
+            if let Ok(answers) = &mut result {
+                answers.retain(|(number, ..)| singles.contains(number));
+            }
+            results.push(result);
+        }
+        let record = depot.engine.record();
+        assert_eq!((record.uncommitted, record.waiting), (0, 0), "nothing is live at the end");
+        (results, depot.cells)
+    };
+    let speculation = run(events.len(), Scheme::Speculation, Scheme::Speculation);
+    assert_eq!(speculation.0.iter().flatten().flatten().count(), singles.len(), "each single is answered once");
+    assert_eq!((&speculation.0[10], &speculation.1[..]), (&Err(Refusal::Failed), &[0, 12][..]));
+    for change in 0..=events.len() {
+        for [first, then] in [[Scheme::Speculation, Scheme::Blocking], [Scheme::Blocking, Scheme::Speculation]] {
+            assert_eq!(run(change, first, then), speculation, "{first:?}, and {then:?} from event {change} on");
+        }
+    }
 }
 
 #[test]

@@ -1,7 +1,7 @@
 //! Holds what is written by hand on both sides of the boundary to the engine's own source: the header and this crate
 //! against the struct, the constants and the exported functions of the Rattle crates, and against the linked archive.
 
-use harukdalis::{linked, Answer, Event, Op, Outcome, Record, Refusal};
+use harukdalis::{linked, Answer, Event, Op, Outcome, Record, Refusal, Scheme};
 use std::collections::{BTreeMap, BTreeSet};
 use std::mem::{offset_of, size_of, size_of_val};
 
@@ -196,6 +196,17 @@ fn the_header_has_this_crates_words_and_refusals_and_nothing_else() {
     assert_eq!(header.into_keys().collect::<BTreeSet<_>>(), known);
 }
 
+#[test]
+fn the_schemes_are_the_models_with_a_function_each() {
+    let model = source("crates/model/src/lib.rt");
+    let cases = between(&model, "pub enum Scheme {", "}").split(',').map(str::trim).filter(|case| !case.is_empty());
+    assert_eq!(Scheme::ALL.map(|scheme| format!("{scheme:?}")).to_vec(), cases.collect::<Vec<_>>());
+    // A call by each, with the same parameters, so that a host changes over by the name alone.
+    let functions = rattle_functions();
+    assert_eq!(functions.keys().filter(|name| name.starts_with("harukdalis_call")).count(), Scheme::ALL.len());
+    assert_eq!(functions["harukdalis_call"], functions["harukdalis_call_blocking"]);
+}
+
 /// The record's fields and their words in the Rattle source, where it must be laid out as in C.
 fn rattle_fields() -> Vec<(String, u64)> {
     let source = source("crates/record/src/lib.rt");
@@ -362,7 +373,7 @@ fn crate_functions() -> BTreeMap<String, Function> {
 #[test]
 fn the_functions_are_the_boundarys() {
     let (rattle, header, ours) = (rattle_functions(), header_functions(), crate_functions());
-    assert_eq!(rattle.len(), 7);
+    assert_eq!(rattle.len(), 8);
     assert_eq!(header, ours, "the header and this crate");
     // Names too where the source has them: cells and room are of one type, and a swap of them must show.
     let mut named = header;

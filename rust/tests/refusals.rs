@@ -1,28 +1,35 @@
-//! Every refusal through the wrapper, each with record, cells and room untouched; and the wrapper's own types.
+//! Every refusal through the wrapper by both schemes, each with record, cells and room untouched; and the wrapper's own
+//! types.
 
 use harukdalis::{
-    Answer, Answers, Engine, Event, Op, Outcome, Record, Refusal, Room, EVENT_WORDS, LEAST_ROOM, MOST_CELLS,
+    Answer, Answers, Engine, Event, Op, Outcome, Record, Refusal, Room, Scheme, EVENT_WORDS, LEAST_ROOM, MOST_CELLS,
     RECORD_WORDS, TOP,
 };
 
-/// A call that must be refused by this number and leave everything as it was.
+/// A call that must be refused by this number by either scheme, and leave everything as it was.
 fn refused(number: u32, engine: &Engine, cells: &[u32], event: &[u32], room_words: usize) {
     let room_before: Vec<u32> = (0..room_words as u32).map(|i| i.wrapping_mul(2_654_435_761)).collect();
-    let (mut engine_after, mut cells_after, mut room_after) = (engine.clone(), cells.to_vec(), room_before.clone());
-    let got = engine_after.call_words(&mut cells_after, event, &mut room_after);
-    assert_eq!(got.map_err(Refusal::number), Err(number));
-    assert_eq!(engine_after.record().words(), engine.record().words(), "the record");
-    assert_eq!(cells_after, cells, "the cells");
-    assert_eq!(room_after, room_before, "the room");
+    for scheme in Scheme::ALL {
+        let (mut engine_after, mut cells_after, mut room_after) = (engine.clone(), cells.to_vec(), room_before.clone());
+        let got = engine_after.call_words_by(scheme, &mut cells_after, event, &mut room_after);
+        assert_eq!(got.map_err(Refusal::number), Err(number), "{scheme:?}");
+        assert_eq!(engine_after.record().words(), engine.record().words(), "the record");
+        assert_eq!(cells_after, cells, "the cells");
+        assert_eq!(room_after, room_before, "the room");
+    }
 }
 
 /// Two shelves of 5 and 10 after these events.
-fn after(events: &[Event]) -> (Engine, Vec<u32>) {
+fn after_by(scheme: Scheme, events: &[Event]) -> (Engine, Vec<u32>) {
     let (mut engine, mut cells, mut room) = (Engine::start(2).unwrap(), vec![5, 10], Room::new());
     for event in events {
-        engine.call(&mut cells, event, &mut room).unwrap();
+        engine.call_by(scheme, &mut cells, event, &mut room).unwrap();
     }
     (engine, cells)
+}
+
+fn after(events: &[Event]) -> (Engine, Vec<u32>) {
+    after_by(Scheme::Speculation, events)
 }
 
 fn read(number: u32) -> Event {
@@ -33,9 +40,12 @@ fn front(last: bool) -> Event {
     Event::multi(5, 1, last, &[Op::add(0, 1)])
 }
 
+/// Whichever scheme took the events, and whichever is asked then.
 fn refused_after(number: u32, events: &[Event], event: Event) {
-    let (engine, cells) = after(events);
-    refused(number, &engine, &cells, &event.words(), LEAST_ROOM);
+    for scheme in Scheme::ALL {
+        let (engine, cells) = after_by(scheme, events);
+        refused(number, &engine, &cells, &event.words(), LEAST_ROOM);
+    }
 }
 
 #[test]
@@ -154,7 +164,9 @@ fn r10_too_many_live() {
     refused_after(10, &events, read(69));
     // The number may come again, once there is room for it.
     events.extend([Event::commit(5), read(69)]);
-    after(&events);
+    for scheme in Scheme::ALL {
+        assert_eq!(after_by(scheme, &events).0.record().largest, 69);
+    }
 }
 
 #[test]
