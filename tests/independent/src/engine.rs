@@ -43,6 +43,35 @@ impl Answer {
     }
 }
 
+/// Which steps a call takes; no record keeps it.
+#[derive(Clone, Copy, Debug, Default, PartialEq, Eq)]
+pub enum Scheme {
+    /// As document 01 has them.
+    #[default]
+    Speculation,
+    /// The drain runs only while nothing is uncommitted.
+    Blocking,
+}
+
+impl Scheme {
+    pub const ALL: [Scheme; 2] = [Scheme::Speculation, Scheme::Blocking];
+
+    pub fn other(self) -> Scheme {
+        match self {
+            Scheme::Speculation => Scheme::Blocking,
+            Scheme::Blocking => Scheme::Speculation,
+        }
+    }
+
+    /// As the trace program is told it.
+    pub fn word(self) -> &'static str {
+        match self {
+            Scheme::Speculation => "speculation",
+            Scheme::Blocking => "blocking",
+        }
+    }
+}
+
 #[derive(Clone, Debug, PartialEq, Eq)]
 pub struct Uncommitted {
     pub first: Fragment,
@@ -120,10 +149,14 @@ pub enum Fault {
     CoordinatorBeforeFinished,
     Depth17,
     Live65,
+    BlockingNeverBlocks,
+    BlockingSpeculatesOnce,
+    BlockingWhenIdle,
+    BlockingRefusesNew,
 }
 
 impl Fault {
-    pub const ALL: [Fault; 13] = [
+    pub const ALL: [Fault; 17] = [
         Fault::UndoOldestFirst,
         Fault::SpeculateBehindUnfinishedFront,
         Fault::RequeueReversed,
@@ -137,7 +170,49 @@ impl Fault {
         Fault::CoordinatorBeforeFinished,
         Fault::Depth17,
         Fault::Live65,
+        Fault::BlockingNeverBlocks,
+        Fault::BlockingSpeculatesOnce,
+        Fault::BlockingWhenIdle,
+        Fault::BlockingRefusesNew,
     ];
+
+    /// Whether runs by this scheme alone can show it. What needs a speculated one is no error by blocking.
+    pub fn shows_by(self, scheme: Scheme) -> bool {
+        match self {
+            Fault::None => false,
+            Fault::SpeculateBehindUnfinishedFront
+            | Fault::RequeueReversed
+            | Fault::SingleAnsweredEarly
+            | Fault::SinglesCountAsForeign
+            | Fault::AnswerRepeated
+            | Fault::Depth17 => scheme == Scheme::Speculation,
+            Fault::BlockingNeverBlocks
+            | Fault::BlockingSpeculatesOnce
+            | Fault::BlockingWhenIdle
+            | Fault::BlockingRefusesNew => scheme == Scheme::Blocking,
+            Fault::UndoOldestFirst
+            | Fault::AddWraps
+            | Fault::TakeFailsOnEquality
+            | Fault::FailureKeepsWrites
+            | Fault::CellsBeforeForm
+            | Fault::CoordinatorBeforeFinished
+            | Fault::Live65 => true,
+        }
+    }
+
+    /// Whether the two schemes differ under it in more than the answers of multis.
+    pub fn parts_schemes(self) -> bool {
+        matches!(
+            self,
+            Fault::UndoOldestFirst
+                | Fault::SpeculateBehindUnfinishedFront
+                | Fault::RequeueReversed
+                | Fault::SingleAnsweredEarly
+                | Fault::FailureKeepsWrites
+                | Fault::BlockingWhenIdle
+                | Fault::BlockingRefusesNew
+        )
+    }
 }
 
 #[derive(Clone, Debug)]
@@ -163,9 +238,17 @@ impl Engine {
         Engine { record, fault: Fault::None }
     }
 
-    /// The returned number and the answers; `room` is how many numbers were lent for these.
+    /// By speculation.
     pub fn call(&mut self, cells: &mut [u32], event: &Event, room: usize) -> (u32, Vec<Answer>) {
-        let refused = self.refusal(cells, event, room);
+        self.call_by(Scheme::Speculation, cells, event, room)
+    }
+
+    /// The returned number and the answers; `room` is how many numbers were lent for these.
+    pub fn call_by(&mut self, scheme: Scheme, cells: &mut [u32], event: &Event, room: usize) -> (u32, Vec<Answer>) {
+        let mut refused = self.refusal(cells, event, room);
+        if refused == 0 && self.turns_away(scheme, event) {
+            refused = 10;
+        }
         let mut answers = Vec::new();
         if refused == 0 {
             match event.kind {
@@ -173,9 +256,16 @@ impl Engine {
                 COMMIT => self.settle(&mut answers),
                 _ => self.abort(cells),
             }
-            self.drain(cells, &mut answers);
+            self.drain(scheme, cells, &mut answers);
         }
         (refused, answers)
+    }
+
+    /// Never: the refusals are the same by both schemes. A wrong engine blocks at the door too.
+    fn turns_away(&self, scheme: Scheme, event: &Event) -> bool {
+        let new = event.kind == FRAGMENT && event.fragment.number > self.record.largest;
+        let blocks = self.fault == Fault::BlockingRefusesNew && scheme == Scheme::Blocking;
+        blocks && new && !self.record.uncommitted.is_empty()
     }
 
     fn refusal(&self, cells: &[u32], event: &Event, room: usize) -> u32 {
@@ -280,8 +370,8 @@ impl Engine {
         }
     }
 
-    fn drain(&mut self, cells: &mut [u32], answers: &mut Vec<Answer>) {
-        while self.may_run_next() {
+    fn drain(&mut self, scheme: Scheme, cells: &mut [u32], answers: &mut Vec<Answer>) {
+        while self.may_run_next(scheme) {
             let Some(first) = self.record.waiting.pop_front() else { break };
             let alone = self.record.uncommitted.is_empty();
             let dependence = if alone { Some(0) } else { self.dependence(&first) };
@@ -301,13 +391,26 @@ impl Engine {
         }
     }
 
-    fn may_run_next(&self) -> bool {
+    fn may_run_next(&self, scheme: Scheme) -> bool {
         let uncommitted = &self.record.uncommitted;
         let careless = self.fault == Fault::SpeculateBehindUnfinishedFront && uncommitted.len() == 1;
-        match uncommitted.back() {
-            None => true,
-            Some(tail) => uncommitted.len() < self.depth() && (tail.state != State::Running || careless),
-        }
+        !self.blocks(scheme)
+            && match uncommitted.back() {
+                None => true,
+                Some(tail) => uncommitted.len() < self.depth() && (tail.state != State::Running || careless),
+            }
+    }
+
+    /// The schemes differ here and nowhere else.
+    fn blocks(&self, scheme: Scheme) -> bool {
+        let count = self.record.uncommitted.len();
+        scheme == Scheme::Blocking
+            && match self.fault {
+                Fault::BlockingNeverBlocks => false,
+                Fault::BlockingSpeculatesOnce => count > 1,
+                Fault::BlockingWhenIdle => true,
+                _ => count > 0,
+            }
     }
 
     /// What the answer of one that joins the uncommitted ones depends on, or nothing if it is held.

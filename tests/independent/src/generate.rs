@@ -1,6 +1,6 @@
 //! Seeded traces that reach every rule, and the counters that show that they do.
 
-use crate::engine::{Engine, State, DEPTH, MOST_FRAGMENTS, MOST_LIVE, ROOM};
+use crate::engine::{Engine, Fault, Scheme, State, DEPTH, MOST_FRAGMENTS, MOST_LIVE, ROOM};
 use crate::event::*;
 use crate::trace::{self, Step, MOST_EVENTS};
 use std::fmt;
@@ -419,9 +419,10 @@ fn bad_trace(random: &mut Random, way: u64) -> Vec<u8> {
     bytes
 }
 
-/// What traces reached.
+/// What traces reached by a scheme.
 #[derive(Clone, Debug, Default)]
 pub struct Reach {
+    pub scheme: Scheme,
     pub traces: u64,
     pub bad: u64,
     pub events: u64,
@@ -437,15 +438,21 @@ pub struct Reach {
     pub eight_fragments: u64,
     pub stopped_by_depth: u64,
     pub stopped_by_tail: u64,
+    /// Where speculation would have gone on.
+    pub stopped_by_blocking: u64,
 }
 
 impl Reach {
+    pub fn by(scheme: Scheme) -> Reach {
+        Reach { scheme, ..Reach::default() }
+    }
+
     pub fn note_trace(&mut self, bytes: &[u8]) {
         self.traces += 1;
         match trace::read(bytes) {
             None => self.bad += 1,
             Some(read) => {
-                trace::play(&read, crate::Fault::None, |step| self.note(&step));
+                trace::play(&read, self.scheme, Fault::None, |step| self.note(&step));
             }
         }
     }
@@ -476,13 +483,18 @@ impl Reach {
             let running = after.uncommitted.back().is_some_and(|tail| tail.state == State::Running);
             self.stopped_by_tail += u64::from(running);
             self.stopped_by_depth += u64::from(!running && count == DEPTH);
+            self.stopped_by_blocking += u64::from(!running && count < DEPTH);
         }
     }
 
     /// What a comparison must have met to be worth something.
     pub fn missing(&self) -> Vec<String> {
         let refusals = (4..=14).map(|number| (format!("refusal {number}"), self.returned[number]));
-        let others = [("depth 16", self.depth_16), ("64 live", self.live_64), ("a bad trace", self.bad)];
+        let of_scheme = match self.scheme {
+            Scheme::Speculation => ("depth 16", self.depth_16),
+            Scheme::Blocking => ("a drain that blocking stops", self.stopped_by_blocking),
+        };
+        let others = [of_scheme, ("64 live", self.live_64), ("a bad trace", self.bad)];
         let others = others.map(|(name, count)| (name.to_string(), count));
         refusals.chain(others).filter(|(_, count)| *count == 0).map(|(name, _)| name).collect()
     }
@@ -491,11 +503,14 @@ impl Reach {
 /// One line.
 impl fmt::Display for Reach {
     fn fmt(&self, f: &mut fmt::Formatter) -> fmt::Result {
-        let Reach { traces, bad, events, depth_16, live_64, .. } = self;
-        write!(f, "traces {traces} (bad {bad}), events {events}, returned")?;
+        let Reach { scheme, traces, bad, events, depth_16, live_64, stopped_by_blocking, .. } = self;
+        write!(f, "{}: traces {traces} (bad {bad}), events {events}, returned", scheme.word())?;
         for (number, count) in self.returned.iter().enumerate().filter(|(number, _)| !(1..=3).contains(number)) {
             write!(f, " {number}:{count}")?;
         }
-        write!(f, ", depth 16 {depth_16}, 64 live {live_64}")
+        match scheme {
+            Scheme::Speculation => write!(f, ", depth 16 {depth_16}, 64 live {live_64}"),
+            Scheme::Blocking => write!(f, ", drains that blocking stopped {stopped_by_blocking}, 64 live {live_64}"),
+        }
     }
 }

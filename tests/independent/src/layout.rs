@@ -7,7 +7,7 @@
 //!       reply (0 sent, 1 held), number of its own undo entries, held place, held count, eight held numbers, two zeros
 //! undo: 184 pairs of cell and old number, in queue order, oldest first
 
-use crate::engine::{Engine, Outcome, Record, State, Uncommitted, ANSWER_WORDS, DEPTH, MOST_LIVE};
+use crate::engine::{Engine, Outcome, Record, Scheme, State, Uncommitted, ANSWER_WORDS, DEPTH, MOST_LIVE};
 use crate::event::{Event, Fragment, EVENT_WORDS, FRAGMENT_WORDS, PLACES};
 use std::collections::VecDeque;
 
@@ -26,23 +26,30 @@ pub fn start(cells: u32) -> (u32, Words) {
     (number, lay_out(&engine.record))
 }
 
-/// One call: the returned number, how many answers fill `room` from its start, and the next record.
+/// One call by speculation: the returned number, how many answers fill `room` from its start, and the next record.
 pub fn call(words: &Words, cells: &mut [u32], event: &[u32; EVENT_WORDS], room: &mut [u32]) -> (u32, u32, Words) {
     let mut next = *words;
-    let (number, answers) = call_in_place(&mut next, cells, event, room);
+    let (number, answers) = call_in_place(Scheme::Speculation, &mut next, cells, event, room);
     (number, answers, next)
 }
 
 /// One call on words of any content and areas of any length: the returned number and the count of answers.
-pub fn call_in_place(words: &mut Words, cells: &mut [u32], event: &[u32], room: &mut [u32]) -> (u32, u32) {
+pub fn call_in_place(
+    scheme: Scheme,
+    words: &mut Words,
+    cells: &mut [u32],
+    event: &[u32],
+    room: &mut [u32],
+) -> (u32, u32) {
     match read(words) {
-        Some(record) => call_on(&mut Engine::of(record), words, cells, event, room),
+        Some(record) => call_on(scheme, &mut Engine::of(record), words, cells, event, room),
         None => (1, 0),
     }
 }
 
 /// One call of an engine, a wrong one too, whose record the words stand for.
 pub fn call_on(
+    scheme: Scheme,
     engine: &mut Engine,
     words: &mut Words,
     cells: &mut [u32],
@@ -51,7 +58,7 @@ pub fn call_on(
 ) -> (u32, u32) {
     // What is no event of 29 words is not well formed, as 29 zeros are not.
     let event = if event.len() == EVENT_WORDS { Event::read(event) } else { Event::default() };
-    let (number, answers) = engine.call(cells, &event, room.len());
+    let (number, answers) = engine.call_by(scheme, cells, &event, room.len());
     if number != 0 {
         // Laying out would clear garbage in unused places.
         return (number, 0);

@@ -2,7 +2,7 @@
 //! first, so that a difference between the two points at an error or at a place where the rules can be read two ways.
 //!
 //! * `event`: events, fragments, operations; what refusals 4 and 5 ask of them
-//! * `engine`: the record, the steps, the refusals; `Fault` makes it commit a known error on purpose
+//! * `engine`: the record, the steps by either scheme, the refusals; `Fault` makes it commit a known error on purpose
 //! * `layout`: the record as words, and a call on words
 //! * `trace`: the trace program; `examples`: traces worth keeping; `generate`: seeded traces and what they reach
 
@@ -13,6 +13,6 @@ pub mod generate;
 pub mod layout;
 pub mod trace;
 
-pub use engine::{Answer, Engine, Fault, Outcome, Record, State, Uncommitted};
+pub use engine::{Answer, Engine, Fault, Outcome, Record, Scheme, State, Uncommitted};
 pub use event::{Event, Fragment, Operation, TOP};
 pub use layout::{call, start};

@@ -1,6 +1,6 @@
 //! The trace program of document 01, and a writer of traces.
 
-use crate::engine::{Answer, Engine, Fault, Record, MOST_CELLS, ROOM};
+use crate::engine::{Answer, Engine, Fault, Record, Scheme, MOST_CELLS, ROOM};
 use crate::event::{Event, EVENT_WORDS};
 use std::fmt::Write;
 
@@ -50,28 +50,28 @@ pub fn write(cells: &[u32], events: &[Event]) -> Vec<u8> {
 }
 
 /// Plays a trace from its start, shows every step, and gives the cells at the end.
-pub fn play(trace: &Trace, fault: Fault, mut seen: impl FnMut(Step)) -> Vec<u32> {
+pub fn play(trace: &Trace, scheme: Scheme, fault: Fault, mut seen: impl FnMut(Step)) -> Vec<u32> {
     let mut cells = trace.cells.clone();
     let (_, mut engine) = Engine::start(cells.len() as u32);
     engine.fault = fault;
     for event in &trace.events {
         let before = engine.record.clone();
-        let (number, answers) = engine.call(&mut cells, event, ROOM);
+        let (number, answers) = engine.call_by(scheme, &mut cells, event, ROOM);
         seen(Step { event, before: &before, number, answers: &answers, after: &engine.record });
     }
     cells
 }
 
 /// All that the trace program prints.
-pub fn replay(bytes: &[u8]) -> String {
-    replay_with(bytes, Fault::None)
+pub fn replay(scheme: Scheme, bytes: &[u8]) -> String {
+    replay_with(scheme, bytes, Fault::None)
 }
 
-pub fn replay_with(bytes: &[u8], fault: Fault) -> String {
+pub fn replay_with(scheme: Scheme, bytes: &[u8], fault: Fault) -> String {
     let Some(trace) = read(bytes) else { return "bad trace\n".to_string() };
     let mut lines = String::new();
     let mut position = 0;
-    let cells = play(&trace, fault, |step| {
+    let cells = play(&trace, scheme, fault, |step| {
         position += 1;
         line(&mut lines, 'e', &[position, step.number]);
         for Answer { number, dependence, outcome } in step.answers {

@@ -4,10 +4,10 @@ use independent::event::*;
 use independent::examples;
 use independent::generate::{self, Reach};
 use independent::trace::{self, replay, replay_with};
-use independent::{Engine, Fault, Operation, State};
+use independent::{Engine, Fault, Operation, Scheme, State};
 
 fn prints(cells: &[u32], events: &[Event]) -> String {
-    replay(&trace::write(cells, events))
+    replay(Scheme::Speculation, &trace::write(cells, events))
 }
 
 /// The output without the `e` lines of accepted events.
@@ -68,10 +68,13 @@ fn examples_show_what_they_are_for() {
     for example in examples::all() {
         let bytes = example.bytes();
         if example.shows != Fault::None {
-            assert_ne!(replay(&bytes), replay_with(&bytes, example.shows), "{}", example.name);
+            let [right, wrong] =
+                [Fault::None, example.shows].map(|fault| replay_with(Scheme::default(), &bytes, fault));
+            assert_ne!(right, wrong, "{}", example.name);
         }
     }
-    let output = |name| replay(&examples::all().iter().find(|example| example.name == name).expect(name).bytes());
+    let named = |name| examples::all().into_iter().find(|example| example.name == name).expect(name);
+    let output = |name| replay(Scheme::Speculation, &named(name).bytes());
     assert!(output("depth16").contains("a 16 1 0 1 115\ne 17 0\ne 18 7\ne 19 0\n"));
     assert!(output("live64").contains("e 65 10\n") && output("live64").contains("e 70 0\na 65 0 0 1 63\n"));
     assert!(output("ninth-fragment").contains("e 8 0\na 1 0 0 1 2\ne 9 11\n"));
@@ -115,12 +118,12 @@ fn four_refuses_each_form_and_no_other() {
 }
 
 /// An engine of two cells (5, 10) that was handed the events; all of them accepted.
-fn after(events: &[Event]) -> (Engine, Vec<u32>) {
+fn after(scheme: Scheme, events: &[Event]) -> (Engine, Vec<u32>) {
     let (number, mut engine) = Engine::start(2);
     let mut cells = vec![5, 10];
     assert_eq!(number, 0);
     for event in events {
-        assert_eq!(engine.call(&mut cells, event, 1024).0, 0, "{event:?}");
+        assert_eq!(engine.call_by(scheme, &mut cells, event, 1024).0, 0, "{event:?}");
     }
     (engine, cells)
 }
@@ -136,20 +139,24 @@ fn refusals_in_their_order() {
     let eight = [&running[..], &vec![Event::open(4, 1, &[read]); 7]].concat();
     let full = [&running[..], &(7..=68).map(|number| Event::single(number, &[read])).collect::<Vec<_>>()].concat();
 
-    let check = |before: &[Event], event: Event, expected: u32| {
-        let (mut engine, mut cells) = after(before);
+    let check_by = |scheme: Scheme, before: &[Event], event: Event, expected: u32| {
+        let (mut engine, mut cells) = after(scheme, before);
         let (record, contents) = (engine.record.clone(), cells.clone());
-        let (number, answers) = engine.call(&mut cells, &event, 1024);
-        assert_eq!(number, expected, "{event:?}");
+        let mut call = |cells: &mut [u32], room| engine.call_by(scheme, cells, &event, room);
+        let (number, answers) = call(&mut cells, 1024);
+        assert_eq!(number, expected, "{event:?} by {scheme:?}");
+        // 2 comes before everything but 1, and 3 next.
+        assert_eq!(call(&mut cells, 1023).0, 2);
+        assert_eq!(call(&mut [], 0).0, 2);
+        for lent in [0, 1, 3] {
+            assert_eq!(call(&mut vec![0; lent], 1024).0, 3);
+        }
         if number != 0 {
             assert!(answers.is_empty() && engine.record == record && cells == contents);
         }
-        // 2 comes before everything but 1, and 3 next.
-        assert_eq!(engine.call(&mut cells, &event, 1023).0, 2);
-        assert_eq!(engine.call(&mut [], &event, 0).0, 2);
-        for lent in [0, 1, 3] {
-            assert_eq!(engine.call(&mut vec![0; lent], &event, 1024).0, 3);
-        }
+    };
+    let check = |before: &[Event], event: Event, expected: u32| {
+        Scheme::ALL.into_iter().for_each(|scheme| check_by(scheme, before, event, expected));
     };
     let bad_code_last = [outside, read, read, read, read, read, read, (9, 0, 0)];
     for before in [&[][..], &running, &finished, &failed, &full] {
@@ -221,9 +228,12 @@ fn failing() {
 #[test]
 fn bad_traces() {
     let good = trace::write(&[5], &[Event::default()]);
-    assert_eq!(replay(&good), "e 1 4\nc 0 5\n");
-    assert_eq!(replay(&trace::write(&[5], &[])), "c 0 5\n");
-    assert_eq!(replay(&trace::write(&[0; 4096], &[Event::default(); 256])).lines().count(), 4096 + 256);
+    let most = trace::write(&[0; 4096], &[Event::default(); 256]);
+    for scheme in Scheme::ALL {
+        assert_eq!(replay(scheme, &good), "e 1 4\nc 0 5\n");
+        assert_eq!(replay(scheme, &trace::write(&[5], &[])), "c 0 5\n");
+        assert_eq!(replay(scheme, &most).lines().count(), 4096 + 256);
+    }
     let with = |at: usize, word: u32| {
         let mut bytes = good.clone();
         bytes[4 * at..4 * at + 4].copy_from_slice(&word.to_le_bytes());
@@ -238,19 +248,25 @@ fn bad_traces() {
     );
     bad.extend([with(2, 1 + (1 << 30)), with(3, TOP)]);
     for bytes in bad {
-        assert_eq!(replay(&bytes), "bad trace\n", "{} bytes", bytes.len());
+        assert_eq!(Scheme::ALL.map(|scheme| replay(scheme, &bytes)), ["bad trace\n"; 2], "{} bytes", bytes.len());
     }
 }
 
 #[test]
 fn generated_traces_reach_everything() {
-    let mut reach = Reach::default();
-    (1..=64).for_each(|seed| reach.note_trace(&generate::trace(seed)));
-    assert!(reach.missing().is_empty(), "{:?}", reach.missing());
-    assert!(reach.requeued.iter().all(|&count| count > 0) && reach.stopped_by_depth > 0 && reach.stopped_by_tail > 0);
-    for fault in Fault::ALL {
-        let shows = |seed: &u64| replay(&generate::trace(*seed)) != replay_with(&generate::trace(*seed), fault);
-        assert!((1..=64).any(|seed| shows(&seed)), "{fault:?}");
+    let reaches = Scheme::ALL.map(|scheme| {
+        let mut reach = Reach::by(scheme);
+        (1..=64).for_each(|seed| reach.note_trace(&generate::trace(seed)));
+        assert!(reach.missing().is_empty() && reach.stopped_by_tail > 0, "{:?} by {scheme:?}", reach.missing());
+        reach
+    });
+    assert!(reaches[0].requeued.iter().all(|&count| count > 0) && reaches[0].stopped_by_depth > 0);
+    for (scheme, fault) in Scheme::ALL.iter().flat_map(|&scheme| Fault::ALL.map(|fault| (scheme, fault))) {
+        let shows = |seed| {
+            let trace = generate::trace(seed);
+            replay(scheme, &trace) != replay_with(scheme, &trace, fault)
+        };
+        assert_eq!((1..=64).any(shows), fault.shows_by(scheme), "{fault:?} by {scheme:?}");
     }
 }
 
@@ -299,12 +315,20 @@ fn generated_events_break_each_clause_of_4_alone() {
 /// The readings' facts of every run from a fresh start, over generated traces.
 #[test]
 fn facts_of_every_run() {
-    for trace in (1..=200).filter_map(|seed| trace::read(&generate::trace(seed))) {
-        trace::play(&trace, Fault::None, |step| {
+    let traces = (1..=200).filter_map(|seed| trace::read(&generate::trace(seed)));
+    for (trace, scheme) in traces.flat_map(|trace| Scheme::ALL.map(|scheme| (trace.clone(), scheme))) {
+        trace::play(&trace, scheme, Fault::None, |step| {
             let record = step.after;
             assert!(record.sound());
-            let tail_runs = record.uncommitted.back().map(|tail| tail.state == State::Running);
-            assert!(record.waiting.is_empty() || tail_runs == Some(true) || record.uncommitted.len() == 16);
+            let (count, tail) = (record.uncommitted.len(), record.uncommitted.back());
+            let stopped = match scheme {
+                Scheme::Speculation => count == 16 || tail.is_some_and(|tail| tail.state == State::Running),
+                Scheme::Blocking => count == 1,
+            };
+            assert!(record.waiting.is_empty() || stopped);
+            if scheme == Scheme::Blocking {
+                assert!(count <= 1 && step.answers.iter().all(|answer| answer.dependence == 0));
+            }
             for (at, one) in record.uncommitted.iter().enumerate() {
                 let first = &one.first;
                 let failed = one.state == State::Failed;

@@ -3,7 +3,7 @@
 use independent::event::*;
 use independent::generate::{self, Random};
 use independent::layout::{call, call_in_place, lay_out, read, start, Words, LIVE, RUNS, RUN_WORDS, UNDO, WORDS};
-use independent::{trace, Engine};
+use independent::{trace, Engine, Scheme};
 
 const CELLS: u32 = 0;
 const LARGEST: u32 = 1;
@@ -52,11 +52,15 @@ fn with(words: &Words, changes: &[(u32, u32)]) -> Words {
     words
 }
 
-/// Calls, and sees that a refusal leaves everything and an acceptance the rest of the room.
 fn careful_call(words: &Words, cells: &mut [u32], event: &Event) -> (u32, Vec<Vec<u32>>, Words) {
+    careful_call_by(Scheme::Speculation, words, cells, event)
+}
+
+/// Calls, and sees that a refusal leaves everything and an acceptance the rest of the room.
+fn careful_call_by(scheme: Scheme, words: &Words, cells: &mut [u32], event: &Event) -> (u32, Vec<Vec<u32>>, Words) {
     let mut room = vec![UNTOUCHED; ROOM + 5];
-    let contents = cells.to_vec();
-    let (number, answers, next) = call(words, cells, &event.words(), &mut room);
+    let (mut next, contents) = (*words, cells.to_vec());
+    let (number, answers) = call_in_place(scheme, &mut next, cells, &event.words(), &mut room);
     let (filled, rest) = room.split_at(16 * answers as usize);
     assert!(rest.iter().all(|&word| word == UNTOUCHED));
     if number != 0 {
@@ -213,9 +217,11 @@ fn odd_records_that_are_sound() {
         for event in
             [Event::commit(3), Event::abort(3), Event::single(20, &[(SET, 3, 1)]), Event::open(3, 1, &[(READ, 0, 0)])]
         {
-            let (number, _, next) = careful_call(&record, &mut lent.clone(), &event);
-            assert_ne!(number, 1, "{changes:?}");
-            assert!(read(&next).expect("sound").sound(), "{changes:?} {event:?}");
+            for scheme in Scheme::ALL {
+                let (number, _, next) = careful_call_by(scheme, &record, &mut lent.clone(), &event);
+                assert_ne!(number, 1, "{changes:?}");
+                assert!(read(&next).expect("sound").sound(), "{changes:?} {event:?} {scheme:?}");
+            }
         }
     }
 }
@@ -318,7 +324,8 @@ fn events_of_other_lengths() {
     let event = [Event::commit(3).words(), [0; EVENT_WORDS]].concat();
     let lend = |words: &Words, lent: usize, length: usize, room: usize| {
         let (mut next, mut cells, mut lent_room) = (*words, cells[..lent].to_vec(), vec![UNTOUCHED; room]);
-        let (number, answers) = call_in_place(&mut next, &mut cells, &event[..length], &mut lent_room);
+        let (number, answers) =
+            call_in_place(Scheme::Blocking, &mut next, &mut cells, &event[..length], &mut lent_room);
         let untouched = next == *words && answers == 0 && lent_room.iter().all(|&word| word == UNTOUCHED);
         assert!(untouched == (number != 0));
         number
@@ -334,13 +341,14 @@ fn events_of_other_lengths() {
 
 #[test]
 fn words_and_struct_do_the_same() {
-    for trace in (1..=48).filter_map(|seed| trace::read(&generate::trace(seed))) {
+    let traces = (1..=48).filter_map(|seed| trace::read(&generate::trace(seed)));
+    for (trace, scheme) in traces.flat_map(|trace| Scheme::ALL.map(|scheme| (trace.clone(), scheme))) {
         let mut cells = (trace.cells.clone(), trace.cells.clone());
         let (_, mut engine) = Engine::start(cells.0.len() as u32);
         let (_, mut words) = start(cells.0.len() as u32);
         for event in &trace.events {
-            let (number, answers) = engine.call(&mut cells.0, event, ROOM);
-            let (again, room, next) = careful_call(&words, &mut cells.1, event);
+            let (number, answers) = engine.call_by(scheme, &mut cells.0, event, ROOM);
+            let (again, room, next) = careful_call_by(scheme, &words, &mut cells.1, event);
             let answers: Vec<_> = answers.iter().map(|answer| answer.words().to_vec()).collect();
             assert!(number == again && answers == room && cells.0 == cells.1);
             assert!(next == lay_out(&engine.record) && read(&next).as_ref() == Some(&engine.record));
@@ -380,7 +388,8 @@ fn damaged_records() {
                 Event::abort(front),
                 Event::last(front, damaged[LIVE + 2], &[(ADD, 0, 1)]),
             ] {
-                let (number, _, next) = careful_call(&damaged, &mut cells.clone(), &event);
+                let scheme = random.pick(&Scheme::ALL);
+                let (number, _, next) = careful_call_by(scheme, &damaged, &mut cells.clone(), &event);
                 unsound += u32::from(number == 1);
                 acted_on += u32::from(number == 0);
                 assert!(number == 1 || read(&next).expect("sound").sound());

@@ -68,6 +68,10 @@ impl Arena {
         &mut self.0[EVENT_AT..][..words]
     }
 
+    pub fn room(&self, words: usize) -> &[u32] {
+        &self.0[ROOM_AT..][..words]
+    }
+
     pub fn room_mut(&mut self, words: usize) -> &mut [u32] {
         &mut self.0[ROOM_AT..][..words]
     }

@@ -1,17 +1,18 @@
 //! A batch: lives of partitions with hostile calls among theirs, all of it decided by the seed and the batch's number.
 
 use crate::arena::{Arena, Lent, MOST_ROOM};
-use crate::bench::{Bench, Difference};
+use crate::bench::{Bench, Difference, Done};
 use crate::damage::Damage;
 use crate::hostile;
 use crate::life::Life;
 use crate::subject::Subject;
 use crate::tally::Tally;
 use crate::view::*;
-use independent::engine::ROOM;
+use independent::engine::{DEPTH, ROOM};
 use independent::event::{EVENT_WORDS, TOP};
 use independent::generate::Random;
 use independent::layout::{Words, WORDS};
+use independent::Scheme;
 
 pub const BATCH_CALLS: u64 = 1000;
 
@@ -84,6 +85,7 @@ impl<S: Subject> Batch<'_, S> {
     fn begin(&mut self) -> Result<(), Difference> {
         let count = self.life.count;
         self.bench.count = count;
+        self.bench.twin.called = false;
         for _ in 0..self.random.below(3) {
             self.try_start()?;
         }
@@ -95,6 +97,7 @@ impl<S: Subject> Batch<'_, S> {
             let mut noise = Random(noise);
             arena.cells_mut(count).iter_mut().for_each(|cell| *cell = Life::content(&mut noise, full));
         });
+        self.bench.pair();
         (self.until_good, self.sound) = (None, true);
         Ok(())
     }
@@ -123,9 +126,12 @@ impl<S: Subject> Batch<'_, S> {
     fn step(&mut self) -> Result<(), Difference> {
         let damaged = self.random.percent(DAMAGED).then(|| self.damage()).flatten();
         let lent = self.prepare();
-        let (number, _) = self.call(lent)?;
+        // A damaged record has no twin; the one that the life returns to has.
+        let clean = self.life.clean && self.until_good.is_none();
+        self.bench.twin.called = clean;
+        let number = self.call(lent)?.number;
         self.sound = number != 1;
-        if number == 0 && self.life.clean && self.until_good.is_none() {
+        if number == 0 && clean {
             let view = View(self.bench.areas().record());
             self.tally.uncommitted[view.uncommitted()] += 1;
             self.tally.live[view.live()] += 1;
@@ -141,12 +147,14 @@ impl<S: Subject> Batch<'_, S> {
         Ok(())
     }
 
-    fn call(&mut self, lent: Lent) -> Result<(u32, u32), Difference> {
-        let old_answers = self.random.word();
+    fn call(&mut self, lent: Lent) -> Result<Done, Difference> {
+        let (scheme, old_answers) = (self.life.scheme(&mut self.random), self.random.word());
+        let clean = self.bench.twin.called;
+        let taken_over = clean && takes_over(scheme, View(self.bench.areas().record()));
         self.done += 1;
-        let (number, answers) = self.bench.call(lent, old_answers)?;
-        self.tally.note(number, answers);
-        Ok((number, answers))
+        let done = self.bench.call(scheme, lent, old_answers)?;
+        self.tally.note(scheme, taken_over, &done);
+        Ok(done)
     }
 
     /// The event and what is lent; most are right.
@@ -241,6 +249,18 @@ impl<S: Subject> Batch<'_, S> {
             // The life goes on from the odd record.
             Some(usize::MAX) => (self.until_good, self.life.clean) = (None, false),
             Some(left) => self.until_good = Some(left - 1),
+        }
+    }
+}
+
+/// Whether a record that calls made shows that the other scheme made it: speculated ones for blocking, and for
+/// speculation some that wait though they might have run.
+fn takes_over(scheme: Scheme, view: View) -> bool {
+    let count = view.uncommitted();
+    match scheme {
+        Scheme::Blocking => count > 1,
+        Scheme::Speculation => {
+            view.live() > count && (1..DEPTH).contains(&count) && view.run(count - 1, STATE) != RUNNING
         }
     }
 }

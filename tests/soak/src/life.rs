@@ -5,6 +5,7 @@ use independent::engine::{DEPTH, MOST_FRAGMENTS, MOST_LIVE};
 use independent::event::*;
 use independent::generate::Random;
 use independent::layout::Words;
+use independent::Scheme;
 
 #[derive(Clone, Copy)]
 enum Wish {
@@ -67,6 +68,9 @@ pub struct Life {
     /// Every new number is above it: now and then the numbers come to their end.
     floor: u32,
     before: Event,
+    scheme: Scheme,
+    /// Chance that a call changes over to the other scheme: never, now and then, or at any call.
+    changes: u32,
     /// Nothing but calls made the record what it is.
     pub clean: bool,
 }
@@ -93,6 +97,8 @@ impl Life {
             skips: random.pick(&[0, 0, 20]),
             floor: if random.percent(8) { TOP - random.between(1, 150) as u32 } else { 0 },
             before: Event::default(),
+            scheme: random.pick(&Scheme::ALL),
+            changes: random.pick(&[0, 0, 0, 3, 50]),
             clean: true,
         }
     }
@@ -103,6 +109,14 @@ impl Life {
             true => random.pick(&[TOP, TOP - 1, TOP - 7, 1 << 31]),
             false => random.below(20) as u32,
         }
+    }
+
+    /// The scheme of the next call.
+    pub fn scheme(&mut self, random: &mut Random) -> Scheme {
+        if random.percent(self.changes) {
+            self.scheme = self.scheme.other();
+        }
+        self.scheme
     }
 
     /// The next event. `cells` are the partition's; the record may be any.

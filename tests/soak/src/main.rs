@@ -1,5 +1,7 @@
-//! Hostile calls through the boundary to C of the linked archive, each compared whole with the independent engine:
-//! the returned number, the count of answers, the record, the cells, the room, the event and the guards around them.
+//! Hostile calls through the boundary to C of the linked archive, by both schemes, each compared whole with the
+//! independent engine: the returned number, the count of answers, the record, the cells, the room, the event and the
+//! guards around them. Where nothing but calls made a record, its twin is handed the same events by the other scheme,
+//! and what must be equal then is compared too.
 //!
 //!     tools/archive && cargo build --release     HARUKDALIS_ARCHIVE names another archive
 //!     soak                                       a million calls of seed 1
@@ -15,7 +17,7 @@
 //! That this sees something is shown by the same with --wrong ReadBehindEvent, which must end with 9. A sanitizer of
 //! the compiler would not do: it looks at what it compiled itself, and the archive is not among that.
 //!
-//! * `arena`, `bench`: the areas of a call, and both engines on them; `subject`: what is tried
+//! * `arena`, `bench`: the areas of a call, and both engines on them; `subject`: what is tried; `twin`: its pair
 //! * `batch`: the mix of calls; `life`: events that mean something; `hostile`: any words and lengths
 //! * `damage`: records that no run leaves; `clauses`: which clauses of soundness a record breaks; `view`: its words
 //! * `wrong`: wrong engines; `tally`: what a run met
@@ -30,11 +32,12 @@ mod life;
 mod listed;
 mod subject;
 mod tally;
+mod twin;
 mod view;
 mod wrong;
 
 use batch::BATCH_CALLS;
-use bench::Bench;
+use bench::{Bench, Judges};
 use std::process::ExitCode;
 use std::time::{Duration, Instant};
 use subject::{Archive, Exact, Subject};
@@ -136,9 +139,10 @@ fn soak<S: Subject>(subject: S, wanted: &Wanted) -> Result<(), String> {
     }
 }
 
-/// Every wrong engine in place of the archive is noticed, and one that is not wrong is not.
+/// Every wrong engine in place of the archive is noticed, and one that is not wrong is not: by the independent engine
+/// alone all of them, by the twin alone those that part the schemes.
 fn self_check(wanted: &Wanted) -> Result<(), String> {
-    if let Some((calls, found)) = notice(Wrong::ByClauses, wanted) {
+    if let Some((calls, found)) = notice(Wrong::ByClauses, Judges::Both, wanted) {
         return Err(format!(
             "FAILED: the clauses and the independent engine differ, call {calls}\n{}",
             found.difference
@@ -146,15 +150,18 @@ fn self_check(wanted: &Wanted) -> Result<(), String> {
     }
     println!("ByClauses: as sound as the independent engine in {PATIENCE} calls");
     let mut unnoticed = Vec::new();
-    for wrong in Wrong::all() {
-        match notice(wrong, wanted) {
-            Some((calls, found)) => println!("{wrong:?}: call {calls}, {}", found.difference.what),
-            None => unnoticed.push(format!("{wrong:?}")),
+    let (all, parting) = (Wrong::all(), Wrong::parting());
+    let by_independent = all.iter().map(|&wrong| (wrong, Judges::Independent));
+    for (wrong, judges) in by_independent.chain(parting.iter().map(|&wrong| (wrong, Judges::Twin))) {
+        let by = if judges == Judges::Twin { ", by its twin" } else { "" };
+        match notice(wrong, judges, wanted) {
+            Some((calls, found)) => println!("{wrong:?}{by}: call {calls}, {}", found.difference.what),
+            None => unnoticed.push(format!("{wrong:?}{by}")),
         }
     }
     match unnoticed.is_empty() {
         true => {
-            println!("all {} wrong engines noticed", Wrong::all().len());
+            println!("all {} wrong engines noticed, and {} by their twins alone", all.len(), parting.len());
             Ok(())
         }
         false => Err(format!("FAILED: not noticed in {PATIENCE} calls: {}", unnoticed.join(", "))),
@@ -162,8 +169,9 @@ fn self_check(wanted: &Wanted) -> Result<(), String> {
 }
 
 /// The first call that shows a wrong engine, and what it shows.
-fn notice(wrong: Wrong, wanted: &Wanted) -> Option<(u64, Box<batch::Found>)> {
+fn notice(wrong: Wrong, judges: Judges, wanted: &Wanted) -> Option<(u64, Box<batch::Found>)> {
     let (mut bench, mut tally) = (Bench::new(wrong), Tally::new());
+    bench.judges = judges;
     (0..PATIENCE / BATCH_CALLS).find_map(|number| {
         let found = batch::run(&mut bench, &mut tally, wanted.seed, wanted.from_batch + number, BATCH_CALLS).err()?;
         Some((number * BATCH_CALLS + found.call, found))

@@ -2,6 +2,7 @@
 
 use crate::arena::Areas;
 use independent::layout::WORDS;
+use independent::Scheme;
 
 pub trait Subject {
     /// # Safety
@@ -10,13 +11,23 @@ pub trait Subject {
 
     /// # Safety
     /// The areas are apart from each other and as long as they say.
-    unsafe fn call(&mut self, areas: Areas) -> u32;
+    unsafe fn call(&mut self, scheme: Scheme, areas: Areas) -> u32;
 }
 
 mod boundary {
     extern "C" {
         pub fn harukdalis_start(record: *mut u32, cells: u32) -> u32;
         pub fn harukdalis_call(
+            record: *mut u32,
+            cells: *mut u32,
+            cell_count: usize,
+            event: *const u32,
+            event_words: usize,
+            room: *mut u32,
+            room_words: usize,
+            answers: *mut u32,
+        ) -> u32;
+        pub fn harukdalis_call_blocking(
             record: *mut u32,
             cells: *mut u32,
             cell_count: usize,
@@ -56,9 +67,13 @@ impl Subject for Archive {
         boundary::harukdalis_start(record, cells)
     }
 
-    unsafe fn call(&mut self, areas: Areas) -> u32 {
+    unsafe fn call(&mut self, scheme: Scheme, areas: Areas) -> u32 {
         let Areas { record, cells, event, room, answers, lent } = areas;
-        boundary::harukdalis_call(record, cells, lent.cells, event, lent.event, room, lent.room, answers)
+        let call = match scheme {
+            Scheme::Speculation => boundary::harukdalis_call,
+            Scheme::Blocking => boundary::harukdalis_call_blocking,
+        };
+        call(record, cells, lent.cells, event, lent.event, room, lent.room, answers)
     }
 }
 
@@ -73,13 +88,13 @@ impl<S: Subject> Subject for Exact<S> {
         number
     }
 
-    unsafe fn call(&mut self, areas: Areas) -> u32 {
+    unsafe fn call(&mut self, scheme: Scheme, areas: Areas) -> u32 {
         let lent = areas.lent;
         let lengths = [WORDS, lent.cells, lent.event, lent.room, 1];
         let places = [areas.record, areas.cells, areas.event, areas.room, areas.answers];
         let mut owns = [0, 1, 2, 3, 4].map(|at: usize| Own::new(places[at], lengths[at]));
         let [record, cells, event, room, answers] = owns.each_mut().map(Own::pointer);
-        let number = self.0.call(Areas { record, cells, event, room, answers, lent });
+        let number = self.0.call(scheme, Areas { record, cells, event, room, answers, lent });
         owns.into_iter().for_each(|own| own.give_back());
         number
     }

@@ -1,7 +1,9 @@
 //! What a run met, and whether that is worth something.
 
+use crate::bench::Done;
 use crate::damage::Damage;
 use independent::engine::{DEPTH, MOST_LIVE};
+use independent::Scheme;
 use std::fmt;
 
 /// A run of this many calls has to reach every corner.
@@ -14,12 +16,30 @@ pub struct OfDamage {
     pub accepted: u64,
 }
 
+/// Calls of the subject and its twin, compared.
+#[derive(Clone, Copy, Default)]
+pub struct OfPairs {
+    pub calls: u64,
+    pub singles: u64,
+    pub nothing_live: u64,
+}
+
+/// Calls by one scheme.
+#[derive(Clone, Copy, Default)]
+pub struct OfScheme {
+    pub returned: [u64; 15],
+    /// Accepted ones on a record that shows that the other scheme made it.
+    pub taken_over: u64,
+}
+
 #[derive(Clone)]
 pub struct Tally {
     pub calls: u64,
     pub starts: u64,
     pub lives: u64,
-    pub returned: [u64; 15],
+    /// In the order of `Scheme::ALL`.
+    pub by: [OfScheme; 2],
+    pub pairs: OfPairs,
     pub answers: u64,
     pub most_answers: u32,
     /// Accepted calls by how many uncommitted and how many live ones they left, in lives that nothing but calls made.
@@ -37,7 +57,8 @@ impl Tally {
             calls: 0,
             starts: 0,
             lives: 0,
-            returned: [0; 15],
+            by: Default::default(),
+            pairs: OfPairs::default(),
             answers: 0,
             most_answers: 0,
             uncommitted: [0; DEPTH + 1],
@@ -47,11 +68,19 @@ impl Tally {
         }
     }
 
-    pub fn note(&mut self, number: u32, answers: u32) {
+    pub fn note(&mut self, scheme: Scheme, taken_over: bool, done: &Done) {
+        let &Done { number, answers, pair } = done;
         self.calls += 1;
-        self.returned[number as usize] += 1;
+        let by = &mut self.by[scheme as usize];
+        by.returned[number as usize] += 1;
+        by.taken_over += u64::from(taken_over && number == 0);
         self.answers += u64::from(answers);
         self.most_answers = self.most_answers.max(answers);
+        if let Some(pair) = pair {
+            self.pairs.calls += 1;
+            self.pairs.singles += pair.singles as u64;
+            self.pairs.nothing_live += u64::from(pair.nothing_live);
+        }
     }
 
     pub fn note_damage(&mut self, at: usize, number: u32) {
@@ -63,18 +92,24 @@ impl Tally {
 
     /// Corners that were never reached.
     pub fn missing(&self) -> Vec<String> {
-        let refusals = (0..15).map(|number| (format!("number {number}"), self.returned[number]));
-        let depths = [
+        let by_scheme = Scheme::ALL.into_iter().zip(&self.by).flat_map(|(scheme, of)| {
+            let by = scheme.word();
+            let returned = (0..15).map(move |number| (format!("number {number} by {by}"), of.returned[number]));
+            returned.chain([(format!("a changeover to {by}"), of.taken_over)])
+        });
+        let corners = [
             ("16 uncommitted".to_string(), self.uncommitted[DEPTH]),
             ("64 live".to_string(), self.live[MOST_LIVE]),
             ("64 answers".to_string(), u64::from(self.most_answers == MOST_LIVE as u32)),
+            ("a single of a pair".to_string(), self.pairs.singles),
+            ("a pair with nothing live".to_string(), self.pairs.nothing_live),
         ];
         let damages = self.damages.iter().map(|(damage, of)| match damage {
             Damage::AtRandom(_) => (format!("{damage:?}"), of.calls),
             Damage::Clause(_) => (format!("{damage:?} refused by 1"), of.unsound),
             Damage::Odd(_) => (format!("{damage:?} accepted"), of.accepted),
         });
-        let all = refusals.chain(depths).chain(damages);
+        let all = by_scheme.chain(corners).chain(damages);
         all.filter(|(_, count)| *count == 0).map(|(name, _)| name).collect()
     }
 }
@@ -89,12 +124,21 @@ impl fmt::Display for Tally {
         let Tally { calls, starts, lives, answers, most_answers, went_on, .. } = self;
         writeln!(f, "calls {calls} and {starts} starts, {lives} lives")?;
         writeln!(f, "answers sent {answers}, at most {most_answers} in a call")?;
-        write!(f, "returned")?;
-        for (number, count) in self.returned.iter().enumerate() {
-            write!(f, " {number}:{count}")?;
+        for (scheme, OfScheme { returned, taken_over }) in Scheme::ALL.iter().zip(&self.by) {
+            let calls: u64 = returned.iter().sum();
+            write!(f, "by {} {calls} calls, returned", scheme.word())?;
+            for (number, count) in returned.iter().enumerate() {
+                write!(f, " {number}:{count}")?;
+            }
+            let share = 100.0 * returned[0] as f64 / calls.max(1) as f64;
+            writeln!(f, "; accepted {share:.1} %, {taken_over} of them on a record that the other scheme left")?;
         }
-        let share = 100.0 * self.returned[0] as f64 / (*calls).max(1) as f64;
-        writeln!(f, "; accepted {share:.1} %")?;
+        let OfPairs { calls, singles, nothing_live } = self.pairs;
+        writeln!(
+            f,
+            "pairs, the same event by either scheme: {calls} calls with equal numbers and equal ones live, {singles} \
+             equal answers of singles, {nothing_live} times nothing live and equal cells"
+        )?;
         let ((deep, deep_times), (full, full_times)) = (most(&self.uncommitted), most(&self.live));
         writeln!(
             f,

@@ -8,7 +8,7 @@ use crate::view::{CELLS, UNCOMMITTED, WAITING};
 use independent::engine::{State, ANSWER_WORDS, ROOM};
 use independent::event::{Event, EVENT_WORDS};
 use independent::layout::{self, Words, RUNS, RUN_WORDS, UNDO, WORDS};
-use independent::{Engine, Fault, Record};
+use independent::{Engine, Fault, Record, Scheme};
 use std::hint::black_box;
 use std::slice;
 
@@ -59,6 +59,9 @@ listed! {
         StartOf4097,
         StartOfNone,
         StartNumber,
+        SchemesSwapped,
+        /// Blocking speculates on until nothing is speculated any longer.
+        LateChangeover,
     }
 }
 
@@ -92,10 +95,16 @@ impl Wrong {
         let slips = Slip::ALL.iter().filter(|&&slip| slip != Slip::ReadBehindEvent).map(|&slip| Wrong::Slip(slip));
         faults.chain(clauses).chain(slips).collect()
     }
+
+    /// All that a twin must notice.
+    pub fn parting() -> Vec<Wrong> {
+        Fault::ALL.into_iter().filter(|fault| fault.parts_schemes()).map(Wrong::Fault).collect()
+    }
 }
 
-/// What a call was lent, as slices.
+/// What a call was lent, as slices, and its scheme.
 struct Call<'a> {
+    scheme: Scheme,
     record: &'a mut Words,
     cells: &'a mut [u32],
     event: &'a [u32],
@@ -104,7 +113,12 @@ struct Call<'a> {
 
 impl Call<'_> {
     fn right(&mut self) -> (u32, u32) {
-        layout::call_in_place(self.record, self.cells, self.event, self.room)
+        layout::call_in_place(self.scheme, self.record, self.cells, self.event, self.room)
+    }
+
+    fn by(&mut self, scheme: Scheme) -> (u32, u32) {
+        self.scheme = scheme;
+        self.right()
     }
 
     /// By an engine of a sound record, changed or with a fault.
@@ -114,7 +128,7 @@ impl Call<'_> {
             Some(record) => {
                 let mut engine = Engine::of(record);
                 change(&mut engine);
-                layout::call_on(&mut engine, self.record, self.cells, self.event, self.room)
+                layout::call_on(self.scheme, &mut engine, self.record, self.cells, self.event, self.room)
             }
         }
     }
@@ -166,9 +180,10 @@ impl Subject for Wrong {
         number
     }
 
-    unsafe fn call(&mut self, areas: Areas) -> u32 {
+    unsafe fn call(&mut self, scheme: Scheme, areas: Areas) -> u32 {
         let lent = areas.lent;
         let mut call = Call {
+            scheme,
             record: &mut *areas.record.cast(),
             cells: slice::from_raw_parts_mut(areas.cells, lent.cells),
             event: slice::from_raw_parts(areas.event, lent.event),
@@ -211,12 +226,12 @@ impl Slip {
         match self {
             Slip::LongEvent if event > EVENT_WORDS => {
                 let first = &call.event[..EVENT_WORDS];
-                layout::call_in_place(call.record, call.cells, first, call.room)
+                layout::call_in_place(call.scheme, call.record, call.cells, first, call.room)
             }
             Slip::ShortEvent if event == EVENT_WORDS - 1 => {
                 let mut longer = [0; EVENT_WORDS];
                 longer[..event].copy_from_slice(call.event);
-                layout::call_in_place(call.record, call.cells, &longer, call.room)
+                layout::call_in_place(call.scheme, call.record, call.cells, &longer, call.room)
             }
             Slip::NoEvent if event == 0 => {
                 let (number, answers) = call.right();
@@ -227,14 +242,14 @@ impl Slip {
             Slip::LengthBeforeCells => call.refuses(bad_length && call.sound() && room >= ROOM, 4),
             Slip::Room1023 if room == ROOM - 1 => {
                 let mut larger = [0; ROOM];
-                layout::call_in_place(call.record, call.cells, call.event, &mut larger)
+                layout::call_in_place(call.scheme, call.record, call.cells, call.event, &mut larger)
             }
             Slip::Room1025 => call.refuses(call.sound() && room == ROOM, 2),
             Slip::RoomRounded => call.refuses(call.sound() && room % ANSWER_WORDS != 0, 2),
             Slip::RoomAfterCells => call.refuses(call.sound() && (cells == 0 || cells != said), 3),
             Slip::RoomBeforeRecord => call.refuses(room < ROOM, 2),
             Slip::MoreCellsLent if cells > said && said > 0 => {
-                layout::call_in_place(call.record, &mut call.cells[..said], call.event, call.room)
+                layout::call_in_place(call.scheme, call.record, &mut call.cells[..said], call.event, call.room)
             }
             Slip::FewerCellsLent if cells > 0 && cells < said && call.sound() && room >= ROOM => (4, 0),
             Slip::CellsAfterForm => {
@@ -255,6 +270,8 @@ impl Slip {
             }),
             Slip::EmptyWithWaitingUnsound => call.refuses(call.record[UNCOMMITTED] == 0 && call.record[WAITING] > 0, 1),
             Slip::LargestTopUnsound => call.refuses(call.record[1] == u32::MAX, 1),
+            Slip::SchemesSwapped => call.by(call.scheme.other()),
+            Slip::LateChangeover if call.record[UNCOMMITTED] > 1 => call.by(Scheme::Speculation),
             _ => call.right(),
         }
     }

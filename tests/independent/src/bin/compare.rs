@@ -1,11 +1,13 @@
-//! Compares a trace program with this engine, trace by trace and byte for byte.
+//! Compares a trace program with this engine, trace by trace and byte for byte, each trace by both schemes.
 //!
 //! compare --program PATH [--args "ARG .."] [--traces N] [--seed S]
 //! compare --self-check [--traces N] [--seed S]     every fault against the right engine, without a program
+//!
+//! For blocking the program is handed the word `blocking` before its other arguments; with none it speculates.
 
 use independent::generate::{self, Reach};
 use independent::trace::{replay, replay_with};
-use independent::Fault;
+use independent::{Fault, Scheme};
 use std::io::{Read, Write};
 use std::process::{Command, ExitCode, Stdio};
 use std::sync::mpsc;
@@ -58,32 +60,36 @@ fn wanted() -> Result<Wanted, String> {
 }
 
 fn compare(program: &str, wanted: &Wanted) -> Result<(), String> {
-    let mut reach = Reach::default();
+    let mut reaches = Scheme::ALL.map(Reach::by);
     for (done, seed) in (1..=wanted.traces).zip(wanted.seed..) {
         let trace = generate::trace(seed);
-        reach.note_trace(&trace);
-        let right = replay(&trace);
-        let wrong = match run(program, &wanted.arguments, &trace) {
-            Ok(printed) if printed == right.as_bytes() => None,
-            Ok(printed) => Some(difference(&right, &printed)),
-            Err(trouble) => Some(trouble),
-        };
-        if let Some(wrong) = wrong {
+        for reach in &mut reaches {
+            let scheme = reach.scheme;
+            reach.note_trace(&trace);
+            let right = replay(scheme, &trace);
+            let wrong = match run(program, scheme, &wanted.arguments, &trace) {
+                Ok(printed) if printed == right.as_bytes() => continue,
+                Ok(printed) => difference(&right, &printed),
+                Err(trouble) => trouble,
+            };
             let file = format!("failing-{seed}.trace");
             let kept = std::fs::write(&file, &trace).map_or_else(|trouble| trouble.to_string(), |()| file);
-            return Err(format!("FAILED: seed {seed}, {wrong}\ntrace: {kept}"));
+            return Err(format!("FAILED: seed {seed} by {}, {wrong}\ntrace: {kept}", scheme.word()));
         }
         if done % 100 == 0 {
-            eprintln!("{done} traces, {} events", reach.events);
+            eprintln!("{done} traces by both schemes, {} events", reaches[0].events);
         }
     }
-    println!("equal: {reach}");
-    all_reached(&reach)
+    reaches.iter().for_each(|reach| println!("equal by {reach}"));
+    all_reached(&reaches)
 }
 
 /// What the program prints for a trace. Its exit number is its own; an end by a signal is trouble.
-fn run(program: &str, arguments: &[String], trace: &[u8]) -> Result<Vec<u8>, String> {
+fn run(program: &str, scheme: Scheme, arguments: &[String], trace: &[u8]) -> Result<Vec<u8>, String> {
     let mut command = Command::new(program);
+    if scheme == Scheme::Blocking {
+        command.arg(scheme.word());
+    }
     command.args(arguments).stdin(Stdio::piped()).stdout(Stdio::piped());
     let mut child = command.spawn().map_err(|trouble| format!("{program} does not start: {trouble}"))?;
     let (mut input, mut output) = (child.stdin.take().expect("piped"), child.stdout.take().expect("piped"));
@@ -131,33 +137,48 @@ fn difference(right: &str, printed: &[u8]) -> String {
 fn self_check(wanted: &Wanted) -> Result<(), String> {
     let traces: Vec<_> =
         (wanted.seed..).take(wanted.traces as usize).map(|seed| (seed, generate::trace(seed))).collect();
-    let mut reach = Reach::default();
-    traces.iter().for_each(|(_, trace)| reach.note_trace(trace));
+    let reaches = Scheme::ALL.map(|scheme| {
+        let mut reach = Reach::by(scheme);
+        traces.iter().for_each(|(_, trace)| reach.note_trace(trace));
+        reach
+    });
+    reaches.iter().for_each(show);
+    let mut wrong = Vec::new();
+    for scheme in Scheme::ALL {
+        let right: Vec<String> = traces.iter().map(|(_, trace)| replay(scheme, trace)).collect();
+        for fault in Fault::ALL {
+            let differs = |(at, (_, trace)): &(usize, &(u64, Vec<u8>))| replay_with(scheme, trace, fault) != right[*at];
+            let shown: Vec<u64> = traces.iter().enumerate().filter(differs).map(|(_, (seed, _))| *seed).collect();
+            let (by, all) = (scheme.word(), traces.len());
+            match (shown.first(), fault.shows_by(scheme)) {
+                (Some(seed), true) => {
+                    println!("{fault:?} by {by}: first shown by seed {seed}, by {} of {all} traces", shown.len())
+                }
+                (None, true) => wrong.push(format!("{fault:?} never noticed by {by}")),
+                (Some(seed), false) => wrong.push(format!("{fault:?} is none by {by}, but seed {seed} shows it")),
+                (None, false) => {}
+            }
+        }
+    }
+    if !wrong.is_empty() {
+        return Err(format!("FAILED: {}", wrong.join(", ")));
+    }
+    all_reached(&reaches)
+}
+
+fn show(reach: &Reach) {
     println!("{reach}");
     let Reach { answers, held, dependent, failed, eight_fragments, stopped_by_depth, stopped_by_tail, .. } = reach;
     println!("answers {answers}, with dependence {dependent}, with a place of failure {failed}; held at first {held}");
     println!("drains stopped by depth {stopped_by_depth}, by an unfinished tail {stopped_by_tail}; eight fragments {eight_fragments}");
     println!("aborts by how many they put back, 0 to 15: {:?}", reach.requeued);
-    let right: Vec<String> = traces.iter().map(|(_, trace)| replay(trace)).collect();
-    let mut unnoticed = Vec::new();
-    for fault in Fault::ALL {
-        let differs = |(at, (_, trace)): &(usize, &(u64, Vec<u8>))| replay_with(trace, fault) != right[*at];
-        let shown: Vec<u64> = traces.iter().enumerate().filter(differs).map(|(_, (seed, _))| *seed).collect();
-        match shown.first() {
-            Some(seed) => {
-                println!("{fault:?}: first shown by seed {seed}, by {} of {} traces", shown.len(), traces.len())
-            }
-            None => unnoticed.push(format!("{fault:?}")),
-        }
-    }
-    if !unnoticed.is_empty() {
-        return Err(format!("FAILED: never noticed: {}", unnoticed.join(", ")));
-    }
-    all_reached(&reach)
 }
 
-fn all_reached(reach: &Reach) -> Result<(), String> {
-    match reach.missing() {
+fn all_reached(reaches: &[Reach]) -> Result<(), String> {
+    let of = |reach: &Reach| {
+        reach.missing().into_iter().map(|name| format!("{name} by {}", reach.scheme.word())).collect::<Vec<_>>()
+    };
+    match reaches.iter().flat_map(of).collect::<Vec<_>>() {
         missing if missing.is_empty() => Ok(()),
         missing => Err(format!("FAILED: never reached: {}", missing.join(", "))),
     }

@@ -1,9 +1,10 @@
-//! trace make-examples DIR    writes the example traces and what they print
-//! trace show FILE            a trace's events in words
-//! trace run FILE             what the trace program prints for it
+//! trace make-examples DIR                    writes the example traces and what they print by each scheme
+//! trace show FILE                            a trace's events in words
+//! trace [speculation|blocking] run FILE      what the trace program prints for it; - for standard input
 
 use independent::event::*;
-use independent::{examples, trace};
+use independent::{examples, trace, Scheme};
+use std::io::Read;
 use std::path::Path;
 use std::process::ExitCode;
 
@@ -11,10 +12,11 @@ fn main() -> ExitCode {
     let arguments: Vec<String> = std::env::args().skip(1).collect();
     let done = match arguments.iter().map(String::as_str).collect::<Vec<_>>()[..] {
         ["make-examples", folder] => make_examples(Path::new(folder)),
-        ["show", file] => std::fs::read(file).map(|bytes| show(&bytes)),
-        ["run", file] => std::fs::read(file).map(|bytes| print!("{}", trace::replay(&bytes))),
+        ["show", file] => read(file).map(|bytes| show(&bytes)),
+        ["run", file] | ["speculation", "run", file] => run(Scheme::Speculation, file),
+        ["blocking", "run", file] => run(Scheme::Blocking, file),
         _ => {
-            eprintln!("usage: trace make-examples DIR | show FILE | run FILE");
+            eprintln!("usage: trace make-examples DIR | show FILE | [speculation|blocking] run FILE");
             return ExitCode::FAILURE;
         }
     };
@@ -27,11 +29,26 @@ fn main() -> ExitCode {
     }
 }
 
+/// The bytes of a file, of standard input for `-`.
+fn read(file: &str) -> std::io::Result<Vec<u8>> {
+    if file != "-" {
+        return std::fs::read(file);
+    }
+    let mut bytes = Vec::new();
+    std::io::stdin().read_to_end(&mut bytes).map(|_| bytes)
+}
+
+fn run(scheme: Scheme, file: &str) -> std::io::Result<()> {
+    read(file).map(|bytes| print!("{}", trace::replay(scheme, &bytes)))
+}
+
 fn make_examples(folder: &Path) -> std::io::Result<()> {
     std::fs::create_dir_all(folder)?;
     for example in examples::all() {
         let bytes = example.bytes();
-        std::fs::write(folder.join(format!("{}.expected", example.name)), trace::replay(&bytes))?;
+        for (scheme, ending) in [(Scheme::Speculation, "expected"), (Scheme::Blocking, "blocking")] {
+            std::fs::write(folder.join(format!("{}.{ending}", example.name)), trace::replay(scheme, &bytes))?;
+        }
         std::fs::write(folder.join(format!("{}.trace", example.name)), bytes)?;
     }
     Ok(())
