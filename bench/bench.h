@@ -4,9 +4,11 @@
 
 #include "harukdalis.h"
 
-/* One of the two engines behind the same calls. A state is a record, or the independent engine's own. */
+/* Calls of a batch: short, so that a busy machine seldom interrupts one. */
+enum { CALLS = 256, PAGE = 4096 };
+
+/* An engine by one scheme behind the same calls. A state is a record, or the independent engine's own. */
 typedef struct engine {
-    const char *name;
     void *(*start)(uint32_t cells);
     void *(*copy)(const void *state);
     void (*drop)(void *state);
@@ -14,7 +16,11 @@ typedef struct engine {
                      uint32_t *room, size_t room_words, uint32_t *answers);
 } engine;
 
-extern const engine proved, independent;
+extern const engine proved, independent;                   /* by speculation */
+extern const engine proved_blocking, independent_blocking; /* by blocking */
+
+/* By how much the records of a round are moved within a page: see in_round. */
+extern size_t moved;
 
 /* An event, prepared before any timing, and what must come back. */
 typedef struct step {
@@ -34,6 +40,14 @@ typedef struct plan {
     uint32_t *expected; /* and those after all steps */
 } plan;
 
+/* Whether a fragment's changes are in the cells when all steps are done. */
+typedef enum effect { LOST, KEPT } effect;
+
+/* A plan to add steps to: any step, or a fragment of so many adds, which is accepted. */
+plan *plan_new(uint32_t cells, uint32_t copies);
+step *plan_step(plan *p, int timed, uint32_t kind, uint32_t number, uint32_t returned, uint32_t answers);
+step *plan_adds(plan *p, int timed, uint32_t number, uint32_t flags, uint32_t operations, effect e, uint32_t answers);
+
 plan *plan_refusal_4(uint32_t calls);
 plan *plan_refusal_14(uint32_t calls);
 plan *plan_idle(uint32_t cells, uint32_t operations, uint32_t calls);
@@ -43,8 +57,40 @@ plan *plan_abort(uint32_t speculated, uint32_t copies);
 plan *plan_join(uint32_t waiting, uint32_t copies);
 void plan_drop(plan *p);
 
-/* (a): the unit. In a file of its own, so that no copy is elided. */
+/* What a plan's first steps leave, for one engine. */
+typedef struct prepared {
+    const engine *by;
+    void *state;
+    uint32_t *cells;
+} prepared;
+
+prepared set_up(const char *name, const plan *p, const engine *e);
+void take_down(prepared *made);
+uint32_t step_on(const engine *e, void *state, uint32_t *cells, const plan *p, const step *s, uint32_t *room,
+                 uint32_t *answers);
+
+/*
+ * The clock, in nanoseconds, and the processor time that this program took: that is not disturbed by what else runs,
+ * but it takes longer to read, so it is for long batches.
+ */
+double now(void);
+double taken(void);
+
+/* One batch of a plan's timed steps on copies of what is prepared: nanoseconds a call. */
+double batch(const char *name, const plan *p, const prepared *from, double (*clock)(void));
+
+/* Both engines side by side, all words of all answers and cells compared; the sum of all numbers that were answered. */
+uint64_t compare(const char *name, const plan *p, const engine *one, const engine *other);
+
+/* (a): the unit, in a file of its own so that no copy is elided, and a batch of it: nanoseconds a call. */
 harukdalis_record by_value(harukdalis_record record);
+double unit_batch(void);
+
+void in_round(size_t round, void (*work)(void *), void *with);
+int rising(const void *one, const void *other);
+
+/* The two schemes under one load, over the share of aborts: schemes.c. As CSV, or with 0 rounds only compared. */
+size_t compare_schemes(size_t rounds, size_t warmup);
 
 /* (c): the timed steps of an idle plan in SQLite. Opened once; NULL where SQLite was left out. */
 typedef struct stock stock;

@@ -1,159 +1,35 @@
 /*
- * main.c: the rows, the rounds and the CSV. Built and run by bench/run.
+ * main.c: the rows, the rounds and their CSV. Built and run by bench/run.
  *
- *   bench ROUNDS WARMUP   progress to standard error, the CSV to standard output
- *   bench --check         every row's work once, and nothing of the clock
- *
- * Whatever comes back is compared in every round, in both modes; the first wrong thing ends the program with status 1.
+ *   bench rows ROUNDS WARMUP      progress to standard error, the CSV of the rows to standard output
+ *   bench schemes ROUNDS WARMUP   the same of the two schemes over the share of aborts: schemes.c
+ *   bench --check                 the work of both once, and nothing of the clock
  */
-#define _POSIX_C_SOURCE 199309L
 #include "bench.h"
 
 #include <stdio.h>
 #include <stdlib.h>
 #include <string.h>
-#include <time.h>
 
-/* Calls of a batch: short, so that a busy machine seldom interrupts one. Copies: 64 records are 620 KB. */
-enum { CALLS = 256, CYCLES = 20, COPIES = 64, MOST_ROWS = 64 };
+/* Copies: 64 records are 620 KB. */
+enum { CYCLES = 20, COPIES = 64, MOST_ROWS = 64 };
+
+/* Those that a row is timed with. */
+enum { PROVED, INDEPENDENT, BLOCKING, TIMED };
+static const char *const engine_name[TIMED] = {"proved", "independent", "blocking"};
 
 /* A row, and its times in nanoseconds a call. Bounds are upper ones on the ratio to (a), 0 where there is none. */
 typedef struct row {
     const char *group, *name;
     uint32_t x;
     plan *work;
+    int blocking; /* timed by blocking too; the same must come back */
     double target, beyond;
-    double *of_proved, *of_independent;
+    double *times[TIMED];
 } row;
 
 static row rows[MOST_ROWS];
 static size_t row_count;
-static uint32_t room[HARUKDALIS_LEAST_ROOM], other_room[HARUKDALIS_LEAST_ROOM];
-
-void must(int holds, const char *row_name, const char *what)
-{
-    if (!holds) {
-        fprintf(stderr, "bench: %s: %s: not as it must be\n", row_name, what);
-        exit(1);
-    }
-}
-
-void *room_for(size_t count, size_t bytes)
-{
-    void *room_made = calloc(count, bytes);
-    must(room_made != NULL, "memory", "allocation");
-    return room_made;
-}
-
-static double now(void)
-{
-    struct timespec t;
-    clock_gettime(CLOCK_MONOTONIC, &t);
-    return (double)t.tv_sec * 1e9 + (double)t.tv_nsec;
-}
-
-/* What a plan's first steps leave, for one engine. */
-typedef struct prepared {
-    void *state;
-    uint32_t *cells;
-} prepared;
-
-static uint32_t step_on(const engine *e, void *state, uint32_t *cells, const plan *p, const step *s, uint32_t *answers)
-{
-    return e->call(state, cells, p->cells, s->event, HARUKDALIS_EVENT_WORDS, room, HARUKDALIS_LEAST_ROOM, answers);
-}
-
-static prepared prepare(const row *r, const engine *e)
-{
-    size_t i;
-    const plan *p = r->work;
-    prepared made = {e->start(p->cells), room_for(p->cells, sizeof(uint32_t))};
-    memcpy(made.cells, p->contents, p->cells * sizeof(uint32_t));
-    for (i = 0; i < p->before_count; i++) {
-        uint32_t answers, returned = step_on(e, made.state, made.cells, p, &p->before[i], &answers);
-        must(returned == p->before[i].returned && answers == p->before[i].answers, r->name, "a step before the timing");
-    }
-    return made;
-}
-
-/* One batch of one engine: nanoseconds a call. All copies are made before the clock is read. */
-__attribute__((noinline)) static double batch(const row *r, const engine *e, const prepared *from)
-{
-    const plan *p = r->work;
-    size_t size = p->cells * sizeof(uint32_t), copy, i;
-    uint32_t wrong = 0, *cells = room_for(p->copies, size);
-    void **states = room_for(p->copies, sizeof(void *));
-    double began, ended;
-    for (copy = 0; copy < p->copies; copy++) {
-        states[copy] = e->copy(from->state);
-        memcpy(cells + copy * p->cells, from->cells, size);
-    }
-    began = now();
-    for (copy = 0; copy < p->copies; copy++) {
-        for (i = 0; i < p->timed_count; i++) {
-            const step *s = &p->timed[i];
-            uint32_t answers, returned = step_on(e, states[copy], cells + copy * p->cells, p, s, &answers);
-            wrong |= (returned ^ s->returned) | (answers ^ s->answers);
-        }
-    }
-    ended = now();
-    must(wrong == 0, r->name, "a returned number or a count of answers");
-    for (copy = 0; copy < p->copies; copy++) {
-        must(memcmp(cells + copy * p->cells, p->expected, size) == 0, r->name, "the cells");
-        e->drop(states[copy]);
-    }
-    free(states);
-    free(cells);
-    return (ended - began) / (double)(p->copies * p->timed_count);
-}
-
-/* Both engines side by side, all words of all answers compared; the sum of all numbers that were answered. */
-static uint64_t compare(const row *r)
-{
-    const plan *p = r->work;
-    prepared one = prepare(r, &proved), other = prepare(r, &independent);
-    uint64_t sum = 0;
-    size_t i;
-    uint32_t answer, place;
-    for (i = 0; i < p->timed_count; i++) {
-        const step *s = &p->timed[i];
-        uint32_t answers, returned;
-        /* Cleared for each, so that no engine is lent the other's answers. */
-        memset(room, 0, sizeof room);
-        returned = step_on(&independent, other.state, other.cells, p, s, &answers);
-        must(returned == s->returned && answers == s->answers, r->name, "a call of the independent engine");
-        memcpy(other_room, room, sizeof room);
-        memset(room, 0, sizeof room);
-        returned = step_on(&proved, one.state, one.cells, p, s, &answers);
-        must(returned == s->returned && answers == s->answers, r->name, "a call of the proved engine");
-        must(memcmp(other_room, room, sizeof room) == 0, r->name, "the words of an answer");
-        for (answer = 0; answer < answers; answer++) {
-            for (place = 0; place < HARUKDALIS_MOST_OPERATIONS; place++) {
-                sum += room[answer * HARUKDALIS_ANSWER_WORDS + HARUKDALIS_ANSWER_NUMBERS + place];
-            }
-        }
-    }
-    proved.drop(one.state);
-    independent.drop(other.state);
-    free(one.cells);
-    free(other.cells);
-    return sum;
-}
-
-__attribute__((noinline)) static double unit_batch(void)
-{
-    static harukdalis_record record;
-    double began, ended;
-    uint32_t i;
-    record.largest = 0;
-    began = now();
-    for (i = 0; i < CALLS; i++) {
-        record = by_value(record);
-    }
-    ended = now();
-    must(record.largest == CALLS, "by value", "the word");
-    return (ended - began) / CALLS;
-}
 
 static double stock_batch(stock *s, const row *r, uint64_t sum)
 {
@@ -167,38 +43,37 @@ static double stock_batch(stock *s, const row *r, uint64_t sum)
     return (ended - began) / (double)r->work->timed_count;
 }
 
-static int rising(const void *one, const void *other)
-{
-    double a = *(const double *)one, b = *(const double *)other;
-    return (a > b) - (a < b);
-}
+/* One round: all side by side, so that what disturbs one disturbs the others too. */
+typedef struct one_round {
+    const row *of;
+    const prepared *from;
+    size_t at;
+    stock *s;
+    uint64_t sum;
+    double *unit, *of_stock;
+} one_round;
 
-/*
- * One round: all side by side, so that what disturbs one disturbs the others too. Where the stack happens to lie
- * changes the cost of copying by some percent, for (a) and for the engine, from one start of the program to the next.
- * So each round has the stack at another place, and 256 rounds have it at every one of a page.
- */
-__attribute__((noinline)) static void one_round(const row *r, size_t round, size_t at, const prepared *one,
-                                                const prepared *other, stock *s, uint64_t sum, double *of_unit,
-                                                double *of_stock)
+static void do_round(void *with)
 {
-    volatile unsigned char shift[16 + round * 208 % 4096];
-    shift[0] = 0;
-    (void)shift[0];
-    of_unit[at] = unit_batch();
-    r->of_proved[at] = batch(r, &proved, one);
-    r->of_independent[at] = batch(r, &independent, other);
-    if (s != NULL) {
-        of_stock[at] = stock_batch(s, r, sum);
+    const one_round *o = with;
+    const row *r = o->of;
+    size_t e;
+    o->unit[o->at] = unit_batch();
+    for (e = 0; e < TIMED; e++) {
+        if (r->times[e] != NULL) {
+            r->times[e][o->at] = batch(r->name, r->work, &o->from[e], now);
+        }
+    }
+    if (o->s != NULL) {
+        o->of_stock[o->at] = stock_batch(o->s, r, o->sum);
     }
 }
 
 /* The first of sorted times is the best, the middle one the median. */
-static void write_row(const row *r, const char *engine_name, double best, double median, const double *unit,
-                      size_t units)
+static void write_row(const row *r, const char *name, double best, double median, const double *unit, size_t units)
 {
-    printf("%s,%s,%u,%s,%.1f,%.1f,%.3f,%.3f,", r->group, r->name, (unsigned)r->x, engine_name, best, median,
-           best / unit[0], median / unit[units / 2]);
+    printf("%s,%s,%u,%s,%.1f,%.1f,%.3f,%.3f,", r->group, r->name, (unsigned)r->x, name, best, median, best / unit[0],
+           median / unit[units / 2]);
     printf(r->target > 0 ? "%.2f," : ",", r->target);
     printf(r->beyond > 0 ? "%.2f\n" : "\n", r->beyond);
 }
@@ -218,17 +93,23 @@ static void add_rows(void)
     static const uint32_t cells[] = {1, 16, 256, 1024, 4096};
     uint32_t i;
     row *r;
-    add("row", "refusal 4", 0, plan_refusal_4(CALLS))->target = 1.5;
+    r = add("row", "refusal 4", 0, plan_refusal_4(CALLS));
+    r->target = 1.5;
+    r->blocking = 1;
     add("row", "refusal 14", 0, plan_refusal_14(CALLS));
     add("row", "idle single of 1", 0, plan_idle(256, 1, CALLS));
     r = idle_of_2 = add("row", "idle single of 2", 0, plan_idle(256, 2, CALLS));
     r->target = 1.6;
     r->beyond = 1.3;
+    r->blocking = 1;
     add("row", "idle single of 8", 0, plan_idle(256, 8, CALLS));
-    add("row", "nine singles to one multi", 0, plan_mix(CYCLES))->target = 2.2;
+    r = add("row", "nine singles to one multi", 0, plan_mix(CYCLES));
+    r->target = 2.2;
+    r->blocking = 1;
     commit_31 = add("row", "commit that drains 31", 0, plan_commit(31, COPIES));
     commit_63 = add("row", "commit that drains 63", 0, plan_commit(63, COPIES));
-    add("row", "abort that undoes 15", 0, plan_abort(15, COPIES));
+    commit_31->blocking = commit_63->blocking = 1;
+    add("row", "abort that undoes 15", 0, plan_abort(15, COPIES))->blocking = 1;
     for (i = 0; i < sizeof cells / sizeof *cells; i++) {
         add("cells", "idle single of 2", cells[i], plan_idle(cells[i], 2, CALLS));
     }
@@ -242,10 +123,8 @@ static void add_rows(void)
 
 static void write_all(size_t rounds, double *unit, size_t units, double *of_stock)
 {
-    size_t i, middle = rounds / 2;
-    row slope = {.group = "row", .name = "one more drained transaction", .target = 0.15};
+    size_t i, e, middle = rounds / 2;
     row by = {.group = "row", .name = "by value"}, in_stock = {.group = "row", .name = "idle single of 2"};
-    const double *most, *less;
     qsort(unit, units, sizeof(double), rising);
     printf("# rounds: %zu after warm-up, of %d calls, %d in the mix, or %d calls on copies\n", rounds, CALLS,
            CYCLES * 11, COPIES);
@@ -254,73 +133,94 @@ static void write_all(size_t rounds, double *unit, size_t units, double *of_stoc
     write_row(&by, "by value", unit[0], unit[units / 2], unit, units);
     for (i = 0; i < row_count; i++) {
         row *r = &rows[i], plain = {.group = r->group, .name = r->name, .x = r->x};
-        qsort(r->of_proved, rounds, sizeof(double), rising);
-        qsort(r->of_independent, rounds, sizeof(double), rising);
-        write_row(r, "proved", r->of_proved[0], r->of_proved[middle], unit, units);
-        write_row(&plain, "independent", r->of_independent[0], r->of_independent[middle], unit, units);
+        for (e = 0; e < TIMED; e++) {
+            if (r->times[e] != NULL) {
+                qsort(r->times[e], rounds, sizeof(double), rising);
+                write_row(e == PROVED ? r : &plain, engine_name[e], r->times[e][0], r->times[e][middle], unit, units);
+            }
+        }
     }
-    /* 32 more wait, and the same 15 are speculated: 32 more are drained. */
-    most = commit_63->of_proved, less = commit_31->of_proved;
-    write_row(&slope, "proved", (most[0] - less[0]) / 32, (most[middle] - less[middle]) / 32, unit, units);
-    most = commit_63->of_independent, less = commit_31->of_independent;
-    slope.target = 0;
-    write_row(&slope, "independent", (most[0] - less[0]) / 32, (most[middle] - less[middle]) / 32, unit, units);
+    /* 32 more wait and are drained; by speculation the same 15 were speculated. */
+    for (e = 0; e < TIMED; e++) {
+        const double *most = commit_63->times[e], *less = commit_31->times[e];
+        row slope = {.group = "row", .name = "one more drained transaction", .target = e == PROVED ? 0.15 : 0};
+        write_row(&slope, engine_name[e], (most[0] - less[0]) / 32, (most[middle] - less[middle]) / 32, unit, units);
+    }
     if (stock_version() != NULL) {
         qsort(of_stock, rounds, sizeof(double), rising);
         write_row(&in_stock, "sqlite", of_stock[0], of_stock[middle], unit, units);
     }
 }
 
-int main(int argc, char **argv)
+/* Every row, compared and in so many rounds; as CSV unless it is only a check. */
+static void do_rows(int check, size_t rounds, size_t warmup)
 {
-    int check = argc == 2 && strcmp(argv[1], "--check") == 0;
-    size_t rounds = check ? 1 : argc == 3 ? strtoul(argv[1], NULL, 10) : 0;
-    size_t warmup = argc == 3 ? strtoul(argv[2], NULL, 10) : 0, units = 0, i, round;
+    static const engine *const timed[TIMED] = {&proved, &independent, &proved_blocking};
     double *unit, *of_stock;
-    if (rounds == 0) {
-        fprintf(stderr, "usage: bench ROUNDS WARMUP | bench --check\n");
-        return 2;
-    }
-    must(harukdalis_record_bytes() == sizeof(harukdalis_record), "the archive", "the size of a record");
+    size_t units = 0, i, e, round;
     add_rows();
     unit = room_for(row_count * rounds, sizeof(double));
     of_stock = room_for(rounds, sizeof(double));
     for (i = 0; i < row_count; i++) {
         row *r = &rows[i];
-        uint64_t sum = compare(r);
-        prepared one = prepare(r, &proved), other = prepare(r, &independent);
-        stock *s = r == idle_of_2 ? stock_open(r->work) : NULL;
-        r->of_proved = room_for(rounds, sizeof(double));
-        r->of_independent = room_for(rounds, sizeof(double));
+        prepared from[TIMED];
+        one_round o = {.of = r, .from = from, .sum = compare(r->name, r->work, &proved, &independent)};
+        o.s = r == idle_of_2 ? stock_open(r->work) : NULL;
+        o.unit = unit + units;
+        o.of_stock = of_stock;
+        if (r->blocking) {
+            compare(r->name, r->work, &proved_blocking, &independent_blocking);
+        }
+        for (e = 0; e < TIMED; e++) {
+            from[e] = set_up(r->name, r->work, timed[e]);
+            r->times[e] = e != BLOCKING || r->blocking ? room_for(rounds, sizeof(double)) : NULL;
+        }
         if (!check) {
             fprintf(stderr, "%2zu of %zu: %s", i + 1, row_count, r->name);
             fprintf(stderr, strcmp(r->group, "row") == 0 ? "\n" : ", %s %u\n", r->group, (unsigned)r->x);
         }
         for (round = 0; round < warmup + rounds; round++) {
-            size_t at = round < warmup ? 0 : round - warmup;
-            one_round(r, round, at, &one, &other, s, sum, unit + units, of_stock);
+            o.at = round < warmup ? 0 : round - warmup;
+            in_round(round, do_round, &o);
         }
         units += rounds;
-        if (s != NULL) {
-            stock_close(s);
+        if (o.s != NULL) {
+            stock_close(o.s);
         }
-        proved.drop(one.state);
-        independent.drop(other.state);
-        free(one.cells);
-        free(other.cells);
+        for (e = 0; e < TIMED; e++) {
+            take_down(&from[e]);
+        }
     }
-    if (check) {
-        printf("bench: %zu rows give what they must, %s\n", row_count,
-               stock_version() != NULL ? "SQLite too" : "SQLite is left out");
-    } else {
+    if (!check) {
         write_all(rounds, unit, units, of_stock);
     }
     for (i = 0; i < row_count; i++) {
         plan_drop(rows[i].work);
-        free(rows[i].of_proved);
-        free(rows[i].of_independent);
+        for (e = 0; e < TIMED; e++) {
+            free(rows[i].times[e]);
+        }
     }
     free(unit);
     free(of_stock);
+}
+
+int main(int argc, char **argv)
+{
+    int check = argc == 2 && strcmp(argv[1], "--check") == 0;
+    size_t rounds = argc == 4 ? strtoul(argv[2], NULL, 10) : 0, warmup = argc == 4 ? strtoul(argv[3], NULL, 10) : 0;
+    must(harukdalis_record_bytes() == sizeof(harukdalis_record), "the archive", "the size of a record");
+    if (check) {
+        size_t points = compare_schemes(0, 0);
+        do_rows(check, 1, 0);
+        printf("bench: %zu rows and %zu loads by both schemes give what they must, %s\n", row_count, points,
+               stock_version() != NULL ? "SQLite too" : "SQLite is left out");
+    } else if (rounds > 0 && strcmp(argv[1], "rows") == 0) {
+        do_rows(check, rounds, warmup);
+    } else if (rounds > 0 && strcmp(argv[1], "schemes") == 0) {
+        compare_schemes(rounds, warmup);
+    } else {
+        fprintf(stderr, "usage: bench rows|schemes ROUNDS WARMUP | bench --check\n");
+        return 2;
+    }
     return 0;
 }

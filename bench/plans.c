@@ -4,12 +4,9 @@
 #include <stdlib.h>
 #include <string.h>
 
-enum { COORDINATOR = 1, CELLS = 256, ROOM_OF_STEPS = 1024 };
+enum { COORDINATOR = 1, CELLS = 256, ROOM_OF_STEPS = 4096 };
 
-/* Whether a fragment's changes are in the cells when all steps are done. */
-typedef enum effect { LOST, KEPT } effect;
-
-static plan *plan_new(uint32_t cells, uint32_t copies)
+plan *plan_new(uint32_t cells, uint32_t copies)
 {
     uint32_t i;
     plan *p = room_for(1, sizeof *p);
@@ -34,7 +31,7 @@ void plan_drop(plan *p)
 }
 
 /* The next step of the setting up, or of the timed part. */
-static step *next(plan *p, int timed, uint32_t kind, uint32_t number, uint32_t returned, uint32_t answers)
+step *plan_step(plan *p, int timed, uint32_t kind, uint32_t number, uint32_t returned, uint32_t answers)
 {
     size_t *count = timed ? &p->timed_count : &p->before_count;
     step *s = &(timed ? p->timed : p->before)[*count];
@@ -47,10 +44,10 @@ static step *next(plan *p, int timed, uint32_t kind, uint32_t number, uint32_t r
 }
 
 /* A fragment that adds 1 to each of so many cells, spread over all. */
-static void adds(plan *p, int timed, uint32_t number, uint32_t flags, uint32_t operations, effect e, uint32_t answers)
+step *plan_adds(plan *p, int timed, uint32_t number, uint32_t flags, uint32_t operations, effect e, uint32_t answers)
 {
     uint32_t i;
-    step *s = next(p, timed, HARUKDALIS_FRAGMENT, number, HARUKDALIS_ACCEPTED, answers);
+    step *s = plan_step(p, timed, HARUKDALIS_FRAGMENT, number, HARUKDALIS_ACCEPTED, answers);
     s->event[HARUKDALIS_EVENT_FLAGS] = flags;
     s->event[HARUKDALIS_EVENT_COORDINATOR] = flags & HARUKDALIS_MULTI ? COORDINATOR : 0;
     s->event[HARUKDALIS_EVENT_COUNT] = operations;
@@ -61,16 +58,17 @@ static void adds(plan *p, int timed, uint32_t number, uint32_t flags, uint32_t o
         o[HARUKDALIS_OPERATION_AMOUNT] = 1;
         p->expected[o[HARUKDALIS_OPERATION_CELL]] += e == KEPT;
     }
+    return s;
 }
 
 static void single(plan *p, int timed, uint32_t number, uint32_t operations, effect e, uint32_t answers)
 {
-    adds(p, timed, number, HARUKDALIS_LAST, operations, e, answers);
+    plan_adds(p, timed, number, HARUKDALIS_LAST, operations, e, answers);
 }
 
 static void multi(plan *p, int timed, uint32_t number, uint32_t last, effect e)
 {
-    adds(p, timed, number, HARUKDALIS_MULTI | last, 1, e, 1);
+    plan_adds(p, timed, number, HARUKDALIS_MULTI | last, 1, e, 1);
 }
 
 /* Early: an event of kind 0. */
@@ -78,7 +76,7 @@ plan *plan_refusal_4(uint32_t calls)
 {
     plan *p = plan_new(CELLS, 1);
     while (calls-- > 0) {
-        next(p, 1, 0, 0, HARUKDALIS_NOT_WELL_FORMED, 0);
+        plan_step(p, 1, 0, 0, HARUKDALIS_NOT_WELL_FORMED, 0);
     }
     return p;
 }
@@ -90,7 +88,7 @@ plan *plan_refusal_14(uint32_t calls)
     multi(p, 0, 1, HARUKDALIS_LAST, LOST);
     p->before[0].event[HARUKDALIS_EVENT_OPERATIONS + HARUKDALIS_OPERATION_AMOUNT] = HARUKDALIS_TOP;
     while (calls-- > 0) {
-        next(p, 1, HARUKDALIS_COMMIT, 1, HARUKDALIS_FAILED, 0);
+        plan_step(p, 1, HARUKDALIS_COMMIT, 1, HARUKDALIS_FAILED, 0);
     }
     return p;
 }
@@ -121,7 +119,7 @@ plan *plan_mix(uint32_t cycles)
         for (i = 0; i < 4; i++) {
             single(p, 1, ++number, 1, KEPT, 0);
         }
-        next(p, 1, commits ? HARUKDALIS_COMMIT : HARUKDALIS_ABORT, front, HARUKDALIS_ACCEPTED, 4);
+        plan_step(p, 1, commits ? HARUKDALIS_COMMIT : HARUKDALIS_ABORT, front, HARUKDALIS_ACCEPTED, 4);
         for (i = 0; i < 5; i++) {
             single(p, 1, ++number, 1, KEPT, 1);
         }
@@ -142,7 +140,7 @@ plan *plan_commit(uint32_t waiting, uint32_t copies)
         single(p, 0, 2 + i, 1, KEPT, 0);
     }
     multi(p, 0, 1, HARUKDALIS_LAST, KEPT);
-    next(p, 1, HARUKDALIS_COMMIT, 1, HARUKDALIS_ACCEPTED, waiting);
+    plan_step(p, 1, HARUKDALIS_COMMIT, 1, HARUKDALIS_ACCEPTED, waiting);
     return p;
 }
 
@@ -155,7 +153,7 @@ plan *plan_abort(uint32_t speculated, uint32_t copies)
     for (i = 0; i < speculated; i++) {
         single(p, 0, 2 + i, 1, KEPT, 0);
     }
-    next(p, 1, HARUKDALIS_ABORT, 1, HARUKDALIS_ACCEPTED, speculated);
+    plan_step(p, 1, HARUKDALIS_ABORT, 1, HARUKDALIS_ACCEPTED, speculated);
     return p;
 }
 

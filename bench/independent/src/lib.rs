@@ -3,7 +3,7 @@
 
 use independent::engine::{ANSWER_WORDS, DEPTH, MOST_LIVE};
 use independent::event::EVENT_WORDS;
-use independent::{Engine, Event};
+use independent::{Engine, Event, Scheme};
 use std::slice::{from_raw_parts, from_raw_parts_mut};
 
 #[no_mangle]
@@ -43,9 +43,36 @@ pub unsafe extern "C" fn independent_call(
     answers: *mut u32,
 ) -> u32 {
     let (cells, room) = (from_raw_parts_mut(cells, cell_count), from_raw_parts_mut(room, room_words));
-    let words = from_raw_parts(event, event_words);
+    call_by(Scheme::Speculation, &mut *engine, cells, from_raw_parts(event, event_words), room, &mut *answers)
+}
+
+/// # Safety
+/// As for `independent_call`.
+#[no_mangle]
+pub unsafe extern "C" fn independent_call_blocking(
+    engine: *mut Engine,
+    cells: *mut u32,
+    cell_count: usize,
+    event: *const u32,
+    event_words: usize,
+    room: *mut u32,
+    room_words: usize,
+    answers: *mut u32,
+) -> u32 {
+    let (cells, room) = (from_raw_parts_mut(cells, cell_count), from_raw_parts_mut(room, room_words));
+    call_by(Scheme::Blocking, &mut *engine, cells, from_raw_parts(event, event_words), room, &mut *answers)
+}
+
+fn call_by(
+    scheme: Scheme,
+    engine: &mut Engine,
+    cells: &mut [u32],
+    words: &[u32],
+    room: &mut [u32],
+    answers: &mut u32,
+) -> u32 {
     let event = if words.len() == EVENT_WORDS { Event::read(words) } else { Event::default() };
-    let (number, sent) = (*engine).call(cells, &event, room.len());
+    let (number, sent) = engine.call_by(scheme, cells, &event, room.len());
     for (place, answer) in room.chunks_exact_mut(ANSWER_WORDS).zip(&sent) {
         place.copy_from_slice(&answer.words());
     }
