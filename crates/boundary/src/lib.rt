@@ -32,7 +32,7 @@ pub(crate) fn event_of(words: &[u32]) -> Event
 }
 
 // A call by a scheme on lent rows, with the event in words.
-pub(crate) fn turn_by(
+pub(crate) fn turn(
     scheme: Scheme,
     count: u32,
     largest: u32,
@@ -63,66 +63,6 @@ pub(crate) fn turn_by(
     )
 }
 
-// By speculation.
-pub(crate) fn turn(
-    count: u32,
-    largest: u32,
-    uncommitted: u32,
-    waiting: u32,
-    live: &mut engine::Live,
-    runs: &mut engine::Runs,
-    undo: &mut engine::Undone,
-    cells: &mut [u32],
-    event: &[u32],
-    room: &mut [u32],
-) -> Turned
-    ensures { λ d. ⌜ answered Speculation (recordBy count largest uncommitted waiting (now (live .entry)) (now (runs .entry)) (now (undo .entry))) (eventOf (now (event .entry))) (now (cells .entry)) (now (room .entry)) (turned count d (now (live .exit)) (now (runs .exit)) (now (undo .exit))) (now (cells .exit)) (now (room .exit)) ⌝ }
-{
-    turn_by(
-        Scheme::Speculation,
-        count,
-        largest,
-        uncommitted,
-        waiting,
-        live,
-        runs,
-        undo,
-        cells,
-        event,
-        room,
-    )
-}
-
-// By blocking.
-pub(crate) fn turn_blocking(
-    count: u32,
-    largest: u32,
-    uncommitted: u32,
-    waiting: u32,
-    live: &mut engine::Live,
-    runs: &mut engine::Runs,
-    undo: &mut engine::Undone,
-    cells: &mut [u32],
-    event: &[u32],
-    room: &mut [u32],
-) -> Turned
-    ensures { λ d. ⌜ answered Blocking (recordBy count largest uncommitted waiting (now (live .entry)) (now (runs .entry)) (now (undo .entry))) (eventOf (now (event .entry))) (now (cells .entry)) (now (room .entry)) (turned count d (now (live .exit)) (now (runs .exit)) (now (undo .exit))) (now (cells .exit)) (now (room .exit)) ⌝ }
-{
-    turn_by(
-        Scheme::Blocking,
-        count,
-        largest,
-        uncommitted,
-        waiting,
-        live,
-        runs,
-        undo,
-        cells,
-        event,
-        room,
-    )
-}
-
 // Starts a record of so many cells, whatever it held.
 #[no_mangle]
 pub extern "C" fn harukdalis_start(r: &mut Record, cells: u32) -> u32
@@ -145,6 +85,7 @@ pub extern "C" fn harukdalis_call(
     ensures { λ n. ⌜ answered Speculation (now (r .entry)) (eventOf (now (event .entry))) (now (cells .entry)) (now (room .entry)) (told n (now (answers .exit)) (now (r .exit))) (now (cells .exit)) (now (room .exit)) ⌝ }
 {
     let t = turn(
+        Scheme::Speculation,
         r.count,
         r.largest,
         r.uncommitted,
@@ -163,7 +104,7 @@ pub extern "C" fn harukdalis_call(
     t.number
 }
 
-// One call on a lent record by blocking: the same but for when a waiting one runs.
+// The same by blocking. Two functions, so that no word that crosses stands for no scheme.
 #[no_mangle]
 pub extern "C" fn harukdalis_call_blocking(
     r: &mut Record,
@@ -174,7 +115,8 @@ pub extern "C" fn harukdalis_call_blocking(
 ) -> u32
     ensures { λ n. ⌜ answered Blocking (now (r .entry)) (eventOf (now (event .entry))) (now (cells .entry)) (now (room .entry)) (told n (now (answers .exit)) (now (r .exit))) (now (cells .exit)) (now (room .exit)) ⌝ }
 {
-    let t = turn_blocking(
+    let t = turn(
+        Scheme::Blocking,
         r.count,
         r.largest,
         r.uncommitted,

@@ -2,10 +2,10 @@ use mathlib.Core.Path.{ap, _∙_}
 use Rattle.model.specs.declared.Event.{Event}
 use Rattle.engine.specs.Called.{called, cellsAfter, roomAfter, recordBy}
 use borrow.Author.Needs.{needs}
-use Rattle.boundary.proofs.turn_by.Statement.{statement}
-use Rattle.boundary.proofs.turn_by.Tie as tie
-use Rattle.boundary.proofs.turn_by.Reads as reads
-use Rattle.boundary.proofs.turn_by.Lts as lts
+use Rattle.boundary.proofs.turn.Statement.{statement}
+use Rattle.boundary.proofs.turn.Tie as tie
+use Rattle.boundary.proofs.turn.Reads as reads
+use Rattle.boundary.proofs.turn.Lts as lts
 use Rattle.boundary.proofs.event_of.Reads as event-of-reads
 use Rattle.engine.proofs.turn.Reads as turn-reads
 
@@ -36,5 +36,5 @@ returns c = let a = c .before .before .before .before .before .before .before .b
       d .1 .1 ∙ ap (λ (v : Event). roomAfter (a .scheme) r v (a .cells .now) (a .room .now)) e,
     )
 
-pub turn-by-spec : {M : Type 1} → statement M
-turn-by-spec = tie.close (tie.spec event-of-requires turn-requires same-length same-length-2 returns)
+pub turn-spec : {M : Type 1} → statement M
+turn-spec = tie.close (tie.spec event-of-requires turn-requires same-length same-length-2 returns)
