@@ -1,11 +1,11 @@
--- Request L5 carried from the list engine to records, by the same road as demand 3 (Carrying).
+-- Carried from the list engine to records by the same road as demand 3 (Carrying): request L5, and what is known of the answers of one call.
 use Prim.Native.Nat.{ℕ, zero, suc, _+_, _<_}
 use native.Mathlib.Omega.{arith}
-use mathlib.Core.Path.{_≡_, refl, sym, ap, _∙_, subst₂}
+use mathlib.Core.Path.{_≡_, refl, sym, ap, _∙_, subst, subst₂}
 use mathlib.Core.List.{List, [], _∷_}
 use lib.ListN.{length, getD}
 use Rattle.model.specs.Operations.{Cells}
-use Rattle.model.specs.Transactions.{Uncommitted, Waiting, Answer, numbers}
+use Rattle.model.specs.Transactions.{Uncommitted, Waiting, Answer, Rising, numbers}
 use Rattle.model.specs.Refusals.{Call, step}
 use Rattle.model.specs.Demand.{Run, onward, runs, fresh, Lends, settledOf}
 use Rattle.model.specs.Schemes.{Alike, Twins, Idle, ofSingles}
@@ -13,6 +13,7 @@ use Rattle.model.specs.declared.Scheme.the-variants.{Blocking}
 use Rattle.model.proofs.Chain.{all-mem}
 use Rattle.model.proofs.Agreeing.{schemes-agree}
 use Rattle.model.proofs.Blocking.{Independent, blocking-independent}
+use Rattle.model.proofs.Rising.{step-rising}
 use Rattle.record.specs.declared.Record.{Record}
 use Rattle.record.specs.View.{view}
 use Rattle.engine.specs.Called.{stepped, called}
@@ -78,3 +79,7 @@ agreed cs = record {
 -- By blocking no answer in the room depends on anything, from any record
 pub blocking-plain : (r : Record) (c : Call) → c .scheme ≡ Blocking → Words (c .event) → (i : ℕ) → i < returned r c .answers → answerOf r c i .dependence ≡ 0
 blocking-plain r c b w i lt = all-mem Independent (step (view r) c .answers) (blocking-independent (view r) c b) (answerOf r c i) (answer-sent r c i w lt)
+
+-- The answers in the room stand in rising number, from any record
+pub answers-rising : (r : Record) (c : Call) → Words (c .event) → Rising 0 (answersOf r c)
+answers-rising r c w = subst (Rising 0) (sym (answers-are r c w)) (step-rising (view r) c)

@@ -125,7 +125,7 @@ pub rises-weaken : (m n top : ℕ) (l : List ℕ) → m ≤ n → Rises n top l 
 rises-weaken m n top [] k h = omega arith
 rises-weaken m n top (x ∷ l) k h = (omega arith, h .1)
 
-rises-more : (n top m : ℕ) (l : List ℕ) → top < m → Rises n top l → Rises n m (l ++ (m ∷ []))
+pub rises-more : (n top m : ℕ) (l : List ℕ) → top < m → Rises n top l → Rises n m (l ++ (m ∷ []))
 rises-more n top m [] k h = (omega arith, omega arith)
 rises-more n top m (x ∷ l) k h = (h .0, rises-more x top m l k (h .1))
 
@@ -133,12 +133,12 @@ numbers-snoc : (us : List Uncommitted) (w : Waiting) (ws : List Waiting) (v : Un
 numbers-snoc [] w ws v e = ap {B = List ℕ} (λ (n : ℕ). n ∷ map (λ (w : Waiting). w .number) ws) e
 numbers-snoc (u ∷ us) w ws v e = ap {B = List ℕ} (λ (l : List ℕ). u .number ∷ l) (numbers-snoc us w ws v e)
 
-numbers-more : (us : List Uncommitted) (ws : List Waiting) (w : Waiting) → numbers us (ws ++ (w ∷ [])) ≡ numbers us ws ++ (w .number ∷ [])
+pub numbers-more : (us : List Uncommitted) (ws : List Waiting) (w : Waiting) → numbers us (ws ++ (w ∷ [])) ≡ numbers us ws ++ (w .number ∷ [])
 numbers-more [] [] w = refl
 numbers-more [] (v ∷ ws) w = ap {B = List ℕ} (λ (l : List ℕ). v .number ∷ l) (numbers-more [] ws w)
 numbers-more (u ∷ us) ws w = ap {B = List ℕ} (λ (l : List ℕ). u .number ∷ l) (numbers-more us ws w)
 
-numbers-requeued : (us : List Uncommitted) (ws : List Waiting) → numbers [] (map requeued us ++ ws) ≡ numbers us ws
+pub numbers-requeued : (us : List Uncommitted) (ws : List Waiting) → numbers [] (map requeued us ++ ws) ≡ numbers us ws
 numbers-requeued [] ws = refl
 numbers-requeued (u ∷ us) ws = ap {B = List ℕ} (λ (l : List ℕ). u .number ∷ l) (numbers-requeued us ws)
 

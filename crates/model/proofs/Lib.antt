@@ -14,6 +14,7 @@ pub mod Keeping
 pub mod Kept
 pub mod Agreeing
 pub mod Blocking
+pub mod Rising
 pub mod Running
 pub mod Codes
 pub mod Unique

@@ -1,5 +1,5 @@
 -- Document 01, "Transactions": what the engine's record means, and what an answer is.
-use Prim.Native.Nat.{ℕ, _*_}
+use Prim.Native.Nat.{ℕ, _*_, _<_}
 use mathlib.Core.Bool.{Bool, true, false}
 use mathlib.Core.List.{List, [], _∷_, _++_, map}
 use lib.Dec.{ltb}
@@ -84,6 +84,11 @@ pub record Answer : Type 0 where
 
 abbrev pub answer : ℕ → ℕ → Outcome → Answer
 answer n d o = record { number = n; dependence = d; outcome = o }
+
+-- answers in rising number, from above n; no transaction has two
+abbrev pub Rising : ℕ → List Answer → Type 0
+Rising n [] = Unit {0}
+Rising n (a ∷ l) = (n < a .number) × Rising (a .number) l
 
 -- "An answer is 16 numbers of 32 bits: transaction, dependence (0 for none), place of failure (0 for none), count of numbers, eight numbers
 -- (unused 0), four zeros."

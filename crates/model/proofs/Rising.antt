@@ -1,0 +1,142 @@
+-- The answers of one call stand in rising number, so no transaction is answered twice in it; from every record, by either scheme.
+use Prim.Native.Nat.{ℕ, zero, suc, _≤_, _<_}
+use native.Mathlib.Omega.{arith}
+use borrow.Author.Tests.{ltb-true, not-false}
+use mathlib.Core.Path.{_≡_, refl, sym, subst}
+use mathlib.Core.Bool.{Bool, true, false, _&&_}
+use mathlib.Core.List.{List, [], _∷_, _++_, map, append-assoc}
+use lib.Dec.{ltb, eqb}
+use Rattle.model.specs.Operations.{Cells, multi}
+use Rattle.model.specs.Transactions.{Reply, Held, Sent, NoReply, Uncommitted, Waiting, Engine, Answer, answer, Rising, numbers, front}
+use Rattle.model.specs.Steps.{run, begun, again, oneCoordinator, nearest, mayTake, Place, placed, Queues, sending, drain, joined, continued, arrived, heldBy, sent, settled, committed, requeued, aborted}
+use Rattle.model.specs.Refusals.{Request, Arrive, Commit, Abort, request, sound, live, new, isFront, Call, refusal, taken, respond, step}
+use Rattle.model.specs.Demand.{Rises}
+use Rattle.model.specs.declared.Fragment.{Fragment}
+use Rattle.model.specs.declared.Scheme.{Scheme}
+use Rattle.model.proofs.Passing.{Passed, passed, front-or-new}
+use Rattle.model.proofs.Sound.{Sound, SoundEngine, sound-parts}
+use Rattle.model.proofs.Keeping.{rises-weaken, numbers-requeued, numbers-more, rises-more}
+
+rising-low : (m n : ℕ) (l : List Answer) → m ≤ n → Rising n l → Rising m l
+rising-low m n [] k h = tt
+rising-low m n (a ∷ l) k h = (omega (arith, h .0), h .1)
+
+-- at most one answer for the first of the queue, then others
+placed-rising : (n : ℕ) (us : List Uncommitted) (w : Waiting) (cs : Cells) (l : List Answer) → n < w .number → Rising (w .number) l → Rising n (placed us w (run (w .fragment) cs []) .answers ++ l)
+unfolding placed
+placed-rising n [] w cs l k h = go (multi (w .fragment))
+  where
+    place : Bool → Place
+    place b = elim b [
+      | false ↦ record { uncommitted = []; answers = answer (w .number) 0 (run (w .fragment) cs [] .outcome) ∷ [] }
+      | true ↦ record { uncommitted = begun w (run (w .fragment) cs []) Sent ∷ []; answers = answer (w .number) 0 (run (w .fragment) cs [] .outcome) ∷ [] }
+    ]
+
+    go : (b : Bool) → Rising n (place b .answers ++ l)
+    go false = (k, h)
+    go true = (k, h)
+placed-rising n (u ∷ us) w cs l k h = go (multi (w .fragment) && oneCoordinator (w .fragment .coordinator) (u ∷ us))
+  where
+    place : Bool → Place
+    place b = elim b [
+      | false ↦ record { uncommitted = u ∷ us ++ (begun w (run (w .fragment) cs []) (Held (run (w .fragment) cs [] .outcome)) ∷ []); answers = [] }
+      | true ↦ record { uncommitted = u ∷ us ++ (begun w (run (w .fragment) cs []) Sent ∷ []); answers = answer (w .number) (nearest 0 (u ∷ us)) (run (w .fragment) cs [] .outcome) ∷ [] }
+    ]
+
+    go : (b : Bool) → Rising n (place b .answers ++ l)
+    go false = rising-low n (w .number) l (omega arith) h
+    go true = (k, h)
+
+drain-rising : (σ : Scheme) (n top : ℕ) (cs : Cells) (us : List Uncommitted) (ws : List Waiting) → Rises n top (numbers [] ws) → Rising n (drain σ cs us ws .answers)
+unfolding drain
+drain-rising σ n top cs us [] h = tt
+drain-rising σ n top cs us (w ∷ ws) h = go (mayTake σ us) (λ cs′ us′. drain-rising σ (w .number) top cs′ us′ ws (h .1))
+  where
+    q : Queues
+    q = drain σ (run (w .fragment) cs [] .cells) (placed us w (run (w .fragment) cs []) .uncommitted) ws
+
+    all : Bool → Queues
+    all b = elim b [ false ↦ record { cells = cs; uncommitted = us; waiting = w ∷ ws; answers = [] } | true ↦ sending (placed us w (run (w .fragment) cs []) .answers) q ]
+
+    go : (b : Bool) → ((cs′ : Cells) (us′ : List Uncommitted) → Rising (w .number) (drain σ cs′ us′ ws .answers)) → Rising n (all b .answers)
+    go false rec = tt
+    go true rec = placed-rising n us w cs (q .answers) (h .0) (rec (run (w .fragment) cs [] .cells) (placed us w (run (w .fragment) cs []) .uncommitted))
+
+held-rising : (n : ℕ) (u : Uncommitted) (l : List Answer) → n < u .number → Rising (u .number) l → Rising n (heldBy u ++ l)
+held-rising n u l k h = go (u .reply)
+  where
+    go : (a : Reply) → Rising n ((elim a as (λ _. List Answer) [ Held o ↦ answer (u .number) 0 o ∷ [] | Sent ↦ [] | NoReply ↦ [] ]) ++ l)
+    go (Held o) = (k, h)
+    go Sent = rising-low n (u .number) l (omega arith) h
+    go NoReply = rising-low n (u .number) l (omega arith) h
+
+waits-rise : (n top : ℕ) (us : List Uncommitted) (ws : List Waiting) → Rises n top (numbers us ws) → Rises n top (numbers [] ws)
+waits-rise n top [] ws h = h
+waits-rise n top (u ∷ us) ws h = rises-weaken n (u .number) top (numbers [] ws) (omega (arith, h .0)) (waits-rise (u .number) top us ws (h .1))
+
+-- those of the singles that settle and of the new front, then others
+settled-rising : (n top : ℕ) (us : List Uncommitted) (ws : List Waiting) (l : List Answer) → Rises n top (numbers us ws) → ((m : ℕ) → Rises m top (numbers [] ws) → Rising m l) → Rising n (settled us .answers ++ l)
+unfolding settled
+settled-rising n top [] ws l h t = t n h
+settled-rising n top (u ∷ us) ws l h t = go (multi (u .first)) (settled-rising (u .number) top us ws l (h .1) t)
+  where
+    place : Bool → Place
+    place b = elim b [
+      | true ↦ record { uncommitted = sent u ∷ us; answers = heldBy u }
+      | false ↦ record { uncommitted = settled us .uncommitted; answers = heldBy u ++ settled us .answers }
+    ]
+
+    go : (b : Bool) → Rising (u .number) (settled us .answers ++ l) → Rising n (place b .answers ++ l)
+    go true r = held-rising n u l (h .0) (t (u .number) (waits-rise (u .number) top us ws (h .1)))
+    go false r = subst (Rising n) (sym (append-assoc (heldBy u) (settled us .answers) l)) (held-rising n u (settled us .answers ++ l) (h .0) r)
+
+module _ (σ : Scheme) (top : ℕ) (cs : Cells) (ws : List Waiting) where
+  joined-rising : (n : ℕ) (f : Fragment) (us : List Uncommitted) → Rises 0 top (numbers us ws) → top < n → Rising 0 (joined σ n f cs us ws .answers)
+  joined-rising n f us h k =
+      let w : Waiting = record { number = n; fragment = f } in
+      drain-rising σ 0 n cs us (ws ++ (w ∷ [])) (waits-rise 0 n us (ws ++ (w ∷ [])) (subst (λ (l : List ℕ). Rises 0 n l) (sym (numbers-more us ws w)) (rises-more 0 top n (numbers us ws) k h)))
+
+  continued-rising : (f : Fragment) (u : Uncommitted) (us : List Uncommitted) → Rises 0 top (numbers (u ∷ us) ws) → Rising 0 (continued σ f cs u us ws .answers)
+  continued-rising f u us h = (h .0, drain-rising σ (u .number) top _ _ ws (waits-rise (u .number) top us ws (h .1)))
+
+  committed-rising : (us : List Uncommitted) → Rises 0 top (numbers us ws) → Rising 0 (committed σ cs us ws .answers)
+  committed-rising [] h = tt
+  committed-rising (u ∷ us) h =
+      settled-rising 0 top us ws (drain σ cs (settled us .uncommitted) ws .answers) (rises-weaken 0 (u .number) top (numbers us ws) (omega arith) (h .1)) (λ m r. drain-rising σ m top cs (settled us .uncommitted) ws r)
+
+  aborted-rising : (us : List Uncommitted) → Rises 0 top (numbers us ws) → Rising 0 (aborted σ cs us ws .answers)
+  aborted-rising [] h = tt
+  aborted-rising (u ∷ us) h =
+      drain-rising σ 0 top _ [] (map requeued us ++ ws) (subst (λ (l : List ℕ). Rises 0 top l) (sym (numbers-requeued us ws)) (rises-weaken 0 (u .number) top (numbers us ws) (omega arith) (h .1)))
+
+  arrived-rising : (n : ℕ) (f : Fragment) (us : List Uncommitted) → Rises 0 top (numbers us ws) → (front (λ (u : Uncommitted). eqb (u .number) n) us ≡ false → top < n) → Rising 0 (arrived σ n f cs us ws .answers)
+  arrived-rising n f [] h k = joined-rising n f [] h (k refl)
+  arrived-rising n f (u ∷ us) h k = go (eqb (u .number) n) k
+    where
+      go : (b : Bool) → (b ≡ false → top < n) → Rising 0 ((elim b as (λ _. Queues) [ false ↦ joined σ n f cs (u ∷ us) ws | true ↦ continued σ f cs u us ws ]) .answers)
+      go false k = joined-rising n f (u ∷ us) h (k refl)
+      go true k = continued-rising f u us h
+
+pub step-rising : (e : Engine) (c : Call) → Rising 0 (step e c .answers)
+unfolding step
+step-rising e c = go (refusal e c) refl
+  where
+    rises : Passed e c → Rises 0 (e .largest) (numbers (e .uncommitted) (e .waiting))
+    rises p = sound-parts e (not-false (sound e) (p .one)) .rises
+
+    asked : (q : Request) → ((n : ℕ) (f : Fragment) → q ≡ Arrive n f → n ≡ c .event .number) → Passed e c → Rising 0 (taken (c .scheme) q e (c .lent) .answers)
+    asked (Arrive n f) is p = arrived-rising (c .scheme) (e .largest) (c .lent) (e .waiting) n f (e .uncommitted) (rises p)
+        (λ z. ltb-true (e .largest) n (subst (λ (m : ℕ). new m e ≡ true) (sym (is n f refl))
+        (front-or-new (live (c .event .number) e) (new (c .event .number) e) (isFront (c .event .number) e) (p .six) (p .seven) (subst (λ (m : ℕ). isFront m e ≡ false) (is n f refl) z))))
+    asked (Commit n) is p = committed-rising (c .scheme) (e .largest) (c .lent) (e .waiting) (e .uncommitted) (rises p)
+    asked (Abort n) is p = aborted-rising (c .scheme) (e .largest) (c .lent) (e .waiting) (e .uncommitted) (rises p)
+
+    names : (a b : Bool) (n : ℕ) (f : Fragment)
+        → elim a as (λ _. Request) [ true ↦ Arrive (c .event .number) (c .event .fragment) | false ↦ elim b [ true ↦ Commit (c .event .number) | false ↦ Abort (c .event .number) ] ] ≡ Arrive n f → n ≡ c .event .number
+    names true b n f x = cc
+    names false true n f x = let y : _≡_ {A = ℕ} 0 1 = cc in absurd (omega arith)
+    names false false n f x = let y : _≡_ {A = ℕ} 0 1 = cc in absurd (omega arith)
+
+    go : (k : ℕ) → refusal e c ≡ k → Rising 0 (respond k e c .answers)
+    go zero q = asked (request (c .event)) (λ n f x. names (eqb (c .event .kind) 1) (eqb (c .event .kind) 2) n f x) (passed e c q)
+    go (suc k) q = tt
