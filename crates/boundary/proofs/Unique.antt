@@ -11,7 +11,7 @@ use Rattle.record.specs.declared.Record.{Record}
 use Rattle.engine.specs.declared.Called.{Called}
 use Rattle.engine.specs.declared.Fresh.{Fresh}
 use Rattle.engine.specs.Called.{called, cellsAfter, roomAfter, freshOf}
-use Rattle.boundary.specs.Words.{eventOf, answerWords, recordBytes}
+use Rattle.boundary.specs.Words.{eventOf, recordBytes}
 use Rattle.boundary.specs.Lent.{started, told, answered}
 
 -- what a call leaves: the number, the count of answers and the record, the lent cells and the lent room

@@ -16,7 +16,3 @@ eventOf l = record { kind = pick (eqb (length l) eventWords) (getD l 0 0) 0; num
 -- four counts, 28 words for each live transaction, 16 for each uncommitted one and 2 for each undo entry, of four bytes each
 abbrev pub recordBytes : ℕ
 recordBytes = 4 * (4 + 28 * mostLive + 16 * depth + 2 * mostEntries)
-
--- "An answer is 16 numbers of 32 bits"
-abbrev pub answerWords : ℕ
-answerWords = 16

@@ -1,9 +1,9 @@
 // The library for C and Rust: the engine over a lent record, lent cells, the words of an event and a lent answer room. What crosses is numbers,
 // slices and references, nothing by value; whatever the words hold, each function ends and has said what it did.
 ghost use mathlib.Core.Path.{_≡_};
-ghost use Rattle.model.specs.Limits.{mostCells, leastRoom, eventWords};
+ghost use Rattle.model.specs.Limits.{mostCells, leastRoom, eventWords, answerWords};
 ghost use Rattle.model.specs.declared.Scheme.the-variants.{Speculation, Blocking};
-ghost use Rattle.boundary.specs.Words.{eventOf, answerWords, recordBytes};
+ghost use Rattle.boundary.specs.Words.{eventOf, recordBytes};
 ghost use Rattle.engine.specs.Called.{recordBy, turned};
 ghost use Rattle.boundary.specs.Lent.{started, told, answered};
 use engine::Turned;

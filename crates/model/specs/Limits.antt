@@ -37,6 +37,10 @@ mostEntries = 184
 abbrev pub leastRoom : ℕ
 leastRoom = 1024
 
+-- "An answer is 16 numbers of 32 bits"
+abbrev pub answerWords : ℕ
+answerWords = 16
+
 -- "29 words an event"
 abbrev pub eventWords : ℕ
 eventWords = 29
