@@ -16,6 +16,7 @@ use Rattle.model.specs.Steps as Steps
 use Rattle.model.specs.declared.Fragment.{Fragment}
 use Rattle.model.specs.declared.Scheme.{Scheme}
 use Rattle.model.specs.declared.Scheme.the-variants.{Speculation, Blocking}
+use Rattle.model.proofs.Branches.{drain-cases}
 use Rattle.model.proofs.Chain.{All, all-map}
 use Rattle.model.proofs.Sound.{Sound}
 use Rattle.model.proofs.Running.{run-few}
@@ -152,22 +153,17 @@ midst-start σ live runs undo room cells c gone us ws sent room₀ w ct top s = 
 
 drain-takes : (σ : Scheme) (cs : Cells) (us : List Uncommitted) (w : Waiting) (ws : List Waiting) → mayTake σ us ≡ true
     → Steps.drain σ cs us (w ∷ ws) ≡ sending (placed us w (run (w .fragment) cs []) .answers) (Steps.drain σ (run (w .fragment) cs [] .cells) (placed us w (run (w .fragment) cs []) .uncommitted) ws)
-unfolding Steps.drain
-drain-takes σ cs us w ws e =
-    ap {B = Queues} (λ (b : Bool). elim b [
-      | false ↦ record { cells = cs; uncommitted = us; waiting = w ∷ ws; answers = [] }
-      | true ↦ sending (placed us w (run (w .fragment) cs []) .answers) (Steps.drain σ (run (w .fragment) cs [] .cells) (placed us w (run (w .fragment) cs []) .uncommitted) ws)
-    ]) e
+drain-takes σ cs us w ws e = drain-cases (λ (q : Queues). q ≡ taken) σ cs us w ws (λ n. absurd (true≢false (sym e ∙ n))) (λ _. refl)
+  where
+    taken : Queues
+    taken = sending (placed us w (run (w .fragment) cs []) .answers) (Steps.drain σ (run (w .fragment) cs [] .cells) (placed us w (run (w .fragment) cs []) .uncommitted) ws)
 
 drain-stays : (σ : Scheme) (cs : Cells) (us : List Uncommitted) (ws : List Waiting) → (ws ≡ []) ⊎ (mayTake σ us ≡ false) → Steps.drain σ cs us ws ≡ record { cells = cs; uncommitted = us; waiting = ws; answers = [] }
 unfolding Steps.drain
 drain-stays σ cs us [] h = refl
 drain-stays σ cs us (w ∷ ws) (inl e) = absurd (mathlib.Core.List.nil≢cons (sym e))
 drain-stays σ cs us (w ∷ ws) (inr e) =
-    ap {B = Queues} (λ (b : Bool). elim b [
-      | false ↦ record { cells = cs; uncommitted = us; waiting = w ∷ ws; answers = [] }
-      | true ↦ sending (placed us w (run (w .fragment) cs []) .answers) (Steps.drain σ (run (w .fragment) cs [] .cells) (placed us w (run (w .fragment) cs []) .uncommitted) ws)
-    ]) e
+    drain-cases (λ (q : Queues). q ≡ record { cells = cs; uncommitted = us; waiting = w ∷ ws; answers = [] }) σ cs us w ws (λ _. refl) (λ t. absurd (true≢false (sym t ∙ e)))
 
 sending-more : (a b : List Answer) (q : Queues) → sending (a ++ b) q ≡ sending a (sending b q)
 sending-more a b q = λ i. record { cells = q .cells; uncommitted = q .uncommitted; waiting = q .waiting; answers = append-assoc a b (q .answers) i }

@@ -1,7 +1,7 @@
 -- The steps only move fragments, and an answer tells at most eight numbers: of records whose rows have eight places.
 use Prim.Native.Nat.{ℕ, suc, _+_, _≤_}
 use native.Mathlib.Omega.{arith}
-use mathlib.Core.Path.{_≡_}
+use mathlib.Core.Path.{_≡_, subst}
 use mathlib.Core.Bool.{Bool, true, false, _&&_}
 use mathlib.Core.List.{List, [], _∷_, _++_, map}
 use lib.Dec.{eqb}
@@ -16,6 +16,7 @@ use Rattle.model.specs.declared.Scheme.{Scheme}
 use Rattle.model.specs.declared.Event.{Event}
 use Rattle.model.specs.declared.Undo.{Undo}
 use Rattle.model.specs.declared.Did.the-variants.{Number, Fails}
+use Rattle.model.proofs.Branches.{placed-idle, placed-behind, settled-cases, drain-cases, held-cases}
 use Rattle.model.proofs.Chain.{All, all-append}
 use Rattle.record.specs.Words.{liveRows, heldOutcome}
 use Rattle.record.proofs.Back.{Eight, Fit}
@@ -53,32 +54,16 @@ run-small f cs us h = omega (arith, run-few 1 (operations f) cs [] us, length-ta
 
 placed-fine : (us : List Uncommitted) (w : Waiting) (cs : Cells) → All Kept us → Eight w
     → All Kept (placed us w (run (w .fragment) cs []) .uncommitted) × All Small (placed us w (run (w .fragment) cs []) .answers)
-unfolding placed
-placed-fine [] w cs k e = go (multi (w .fragment))
+placed-fine [] w cs k e = placed-idle (λ (p : Place). All Kept (p .uncommitted) × All Small (p .answers)) w (run (w .fragment) cs [])
+    (λ _. (tt, (run-small (w .fragment) cs [] e, tt))) (λ _. (((e, omega arith), tt), (run-small (w .fragment) cs [] e, tt)))
+placed-fine (u ∷ us) w cs k e = placed-behind (λ (p : Place). All Kept (p .uncommitted) × All Small (p .answers)) u us w (run (w .fragment) cs [])
+    (join (Held (run (w .fragment) cs [] .outcome)) (run-small (w .fragment) cs [] e), tt) (λ _. (join Sent (omega arith), (run-small (w .fragment) cs [] e, tt)))
   where
-    place : Bool → Place
-    place b = elim b [
-      | false ↦ record { uncommitted = []; answers = answer (w .number) 0 (run (w .fragment) cs [] .outcome) ∷ [] }
-      | true ↦ record { uncommitted = begun w (run (w .fragment) cs []) Sent ∷ []; answers = answer (w .number) 0 (run (w .fragment) cs [] .outcome) ∷ [] }
-    ]
-
-    go : (b : Bool) → All Kept (place b .uncommitted) × All Small (place b .answers)
-    go false = (tt, (run-small (w .fragment) cs [] e, tt))
-    go true = (((e, omega arith), tt), (run-small (w .fragment) cs [] e, tt))
-placed-fine (u ∷ us) w cs k e = go (multi (w .fragment) && oneCoordinator (w .fragment .coordinator) (u ∷ us))
-  where
-    place : Bool → Place
-    place b = elim b [
-      | false ↦ record { uncommitted = u ∷ us ++ (begun w (run (w .fragment) cs []) (Held (run (w .fragment) cs [] .outcome)) ∷ []); answers = [] }
-      | true ↦ record { uncommitted = u ∷ us ++ (begun w (run (w .fragment) cs []) Sent ∷ []); answers = answer (w .number) (nearest 0 (u ∷ us)) (run (w .fragment) cs [] .outcome) ∷ [] }
-    ]
-
     join : (a : Reply) → length (heldOutcome a .numbers) ≤ 8 → All Kept (u ∷ us ++ (begun w (run (w .fragment) cs []) a ∷ []))
     join a h = all-append Kept (u ∷ us) (begun w (run (w .fragment) cs []) a ∷ []) k ((e, h), tt)
 
-    go : (b : Bool) → All Kept (place b .uncommitted) × All Small (place b .answers)
-    go false = (join (Held (run (w .fragment) cs [] .outcome)) (run-small (w .fragment) cs [] e), tt)
-    go true = (join Sent (omega arith), (run-small (w .fragment) cs [] e, tt))
+sending-fine : (l : List Answer) (q : Queues) → All Small l → Fine q → Fine (sending l q)
+sending-fine l q s f = record { uncommitted = f .uncommitted; waiting = f .waiting; answers = all-append Small l (q .answers) s (f .answers) }
 
 drain-fine : (σ : Scheme) (cs : Cells) (us : List Uncommitted) (ws : List Waiting) → All Kept us → All Eight ws → Fine (drain σ cs us ws)
 unfolding drain
@@ -86,41 +71,18 @@ drain-fine σ cs us [] k e = record { uncommitted = k; waiting = tt; answers = t
 drain-fine σ cs us (w ∷ ws) k e =
     let p : Place = placed us w (run (w .fragment) cs []) in
     let h = placed-fine us w cs k (e .0) in
-    go (mayTake σ us) (h .1) (drain-fine σ (run (w .fragment) cs [] .cells) (p .uncommitted) ws (h .0) (e .1))
-  where
-    q : Queues
-    q = drain σ (run (w .fragment) cs [] .cells) (placed us w (run (w .fragment) cs []) .uncommitted) ws
-
-    go : (b : Bool) → All Small (placed us w (run (w .fragment) cs []) .answers) → Fine q
-        → Fine (elim b [ false ↦ record { cells = cs; uncommitted = us; waiting = w ∷ ws; answers = [] } | true ↦ sending (placed us w (run (w .fragment) cs []) .answers) q ])
-    go false s f = record { uncommitted = k; waiting = e; answers = tt }
-    go true s f = record { uncommitted = f .uncommitted; waiting = f .waiting; answers = all-append Small (placed us w (run (w .fragment) cs []) .answers) (q .answers) s (f .answers) }
-
-sending-fine : (l : List Answer) (q : Queues) → All Small l → Fine q → Fine (sending l q)
-sending-fine l q s f = record { uncommitted = f .uncommitted; waiting = f .waiting; answers = all-append Small l (q .answers) s (f .answers) }
+    let f = drain-fine σ (run (w .fragment) cs [] .cells) (p .uncommitted) ws (h .0) (e .1) in
+    drain-cases Fine σ cs us w ws (λ _. record { uncommitted = k; waiting = e; answers = tt })
+    (λ _. sending-fine (p .answers) (drain σ (run (w .fragment) cs [] .cells) (p .uncommitted) ws) (h .1) f)
 
 held-small : (u : Uncommitted) → Fit u → All Small (heldBy u)
-held-small u h = go (u .reply) h
-  where
-    go : (a : Reply) → length (heldOutcome a .numbers) ≤ 8 → All Small (elim a [ Held o ↦ answer (u .number) 0 o ∷ [] | Sent ↦ [] | NoReply ↦ [] ])
-    go (Held o) h = (h, tt)
-    go Sent h = tt
-    go NoReply h = tt
+held-small u h = held-cases (All Small) u (λ o e. (subst (λ (a : Reply). length (heldOutcome a .numbers) ≤ 8) e h, tt)) (λ _. tt)
 
 settled-fine : (us : List Uncommitted) → All Kept us → All Kept (settled us .uncommitted) × All Small (settled us .answers)
 unfolding settled
 settled-fine [] k = (tt, tt)
-settled-fine (u ∷ us) k = go (multi (u .first)) (settled-fine us (k .1))
-  where
-    place : Bool → Place
-    place b = elim b [
-      | true ↦ record { uncommitted = sent u ∷ us; answers = heldBy u }
-      | false ↦ record { uncommitted = settled us .uncommitted; answers = heldBy u ++ settled us .answers }
-    ]
-
-    go : (b : Bool) → All Kept (settled us .uncommitted) × All Small (settled us .answers) → All Kept (place b .uncommitted) × All Small (place b .answers)
-    go true x = (((k .0 .0, omega arith), k .1), held-small u (k .0 .1))
-    go false x = (x .0, all-append Small (heldBy u) (settled us .answers) (held-small u (k .0 .1)) (x .1))
+settled-fine (u ∷ us) k = settled-cases (λ (p : Place). All Kept (p .uncommitted) × All Small (p .answers)) u us (λ _. (((k .0 .0, omega arith), k .1), held-small u (k .0 .1)))
+    (λ _. let x = settled-fine us (k .1) in (x .0, all-append Small (heldBy u) (settled us .answers) (held-small u (k .0 .1)) (x .1)))
 
 pub rows-eight : (us : List Uncommitted) (ws : List Waiting) → All Kept us → All Eight ws → All Eight (liveRows us ws)
 rows-eight [] ws k e = e

@@ -11,50 +11,28 @@ use Rattle.model.specs.Refusals.{Request, Arrive, Commit, Abort, request
 use Rattle.model.specs.declared.Fragment.{Fragment}
 use Rattle.model.specs.declared.Scheme.{Scheme}
 use Rattle.model.specs.declared.Scheme.the-variants.{Blocking}
+use Rattle.model.proofs.Branches.{placed-idle, settled-cases, held-cases}
 use Rattle.model.proofs.Chain.{All, all-append}
 
 abbrev pub Independent : Answer → Type 0
 Independent a = a .dependence ≡ 0
 
 drain-independent : (cs : Cells) (us : List Uncommitted) (ws : List Waiting) → All Independent (drain Blocking cs us ws .answers)
-unfolding drain placed
+unfolding drain
 drain-independent cs us [] = tt
 drain-independent cs (u ∷ us) (w ∷ ws) = tt
-drain-independent cs [] (w ∷ ws) = go (multi (w .fragment)) (λ us. drain-independent (run (w .fragment) cs [] .cells) us ws)
-  where
-    place : Bool → Place
-    place b = elim b [
-      | false ↦ record { uncommitted = []; answers = answer (w .number) 0 (run (w .fragment) cs [] .outcome) ∷ [] }
-      | true ↦ record { uncommitted = begun w (run (w .fragment) cs []) Sent ∷ []; answers = answer (w .number) 0 (run (w .fragment) cs [] .outcome) ∷ [] }
-    ]
-
-    go : (b : Bool) → ((us : List Uncommitted) → All Independent (drain Blocking (run (w .fragment) cs [] .cells) us ws .answers))
-        → All Independent (place b .answers ++ drain Blocking (run (w .fragment) cs [] .cells) (place b .uncommitted) ws .answers)
-    go false rec = (refl, rec [])
-    go true rec = (refl, rec (begun w (run (w .fragment) cs []) Sent ∷ []))
+drain-independent cs [] (w ∷ ws) =
+    placed-idle (λ (p : Place). All Independent (p .answers ++ drain Blocking (run (w .fragment) cs [] .cells) (p .uncommitted) ws .answers)) w (run (w .fragment) cs [])
+    (λ _. (refl, drain-independent (run (w .fragment) cs [] .cells) [] ws)) (λ _. (refl, drain-independent (run (w .fragment) cs [] .cells) (begun w (run (w .fragment) cs []) Sent ∷ []) ws))
 
 held-independent : (u : Uncommitted) → All Independent (heldBy u)
-held-independent u = go (u .reply)
-  where
-    go : (a : Reply) → All Independent (elim a [ Held o ↦ answer (u .number) 0 o ∷ [] | Sent ↦ [] | NoReply ↦ [] ])
-    go (Held o) = (refl, tt)
-    go Sent = tt
-    go NoReply = tt
+held-independent u = held-cases (All Independent) u (λ o _. (refl, tt)) (λ _. tt)
 
 settled-independent : (us : List Uncommitted) → All Independent (settled us .answers)
 unfolding settled
 settled-independent [] = tt
-settled-independent (u ∷ us) = go (multi (u .first)) (settled-independent us)
-  where
-    place : Bool → Place
-    place b = elim b [
-      | true ↦ record { uncommitted = sent u ∷ us; answers = heldBy u }
-      | false ↦ record { uncommitted = settled us .uncommitted; answers = heldBy u ++ settled us .answers }
-    ]
-
-    go : (b : Bool) → All Independent (settled us .answers) → All Independent (place b .answers)
-    go true x = held-independent u
-    go false x = all-append Independent (heldBy u) (settled us .answers) (held-independent u) x
+settled-independent (u ∷ us) = settled-cases (λ (p : Place). All Independent (p .answers)) u us (λ _. held-independent u)
+    (λ _. all-append Independent (heldBy u) (settled us .answers) (held-independent u) (settled-independent us))
 
 arrived-independent : (n : ℕ) (f : Fragment) (cs : Cells) (us : List Uncommitted) (ws : List Waiting) → All Independent (arrived Blocking n f cs us ws .answers)
 arrived-independent n f cs [] ws = drain-independent cs [] (ws ++ (record { number = n; fragment = f } ∷ []))

@@ -17,7 +17,8 @@ use Rattle.model.specs.declared.Fragment.{Fragment}
 use Rattle.model.specs.declared.Scheme.{Scheme}
 use Rattle.model.proofs.Undoing.{Agree}
 use Rattle.model.proofs.Taking.{may-finished}
-use Rattle.model.proofs.Tests.{and-left, or-true}
+use Rattle.model.proofs.Tests.{or-true}
+use Rattle.model.proofs.Branches.{placed-idle, placed-behind, drain-cases}
 use Rattle.model.proofs.Replying.{Singled, singled-none, singled-both, singled-multi, singled-settles}
 use Rattle.model.proofs.Logs.{InOrder, rises-weaken, rises-at, gives-at, Past, Closed, closed-snoc, past-settles}
 use Rattle.model.proofs.Chain.{nearestTx, nearest-lives, asTx, txOf, lives, Entry, Chain, ButLast, FrontMulti, Pend, InPast, Followed, All, all-map, all-append, Inv, chain-cells, chain-snoc, lives-snoc, ready-snoc, ready-tail, begun-agrees, begun-stands, begun-entry, settled-is, sent-is-not-held, held-inj, followed-idle, followed-snoc, in-past, none-pends}
@@ -168,33 +169,13 @@ module _ (cs₀ : Cells) (top : ℕ) (l : Log) (rises : InOrder 0 top l) where
   pub placed-inv : (σ : Scheme) (us : List Uncommitted) (w : Waiting) (ws : List Waiting) (cs : Cells) (as′ : List Answer) → mayTake σ us ≡ true → (i : Inv cs₀ l cs us (w ∷ ws) as′)
       → Onto cs₀ l (i .past) (run (w .fragment) cs [] .cells) (placed us w (run (w .fragment) cs []) .uncommitted) ws as′ (placed us w (run (w .fragment) cs []) .answers)
       × All (Plain cs₀ l) (placed us w (run (w .fragment) cs []) .answers)
-  unfolding placed
-  placed-inv σ [] w ws cs as′ m i = go (multi (w .fragment)) refl
-    where
-      place : Bool → Place
-      place b = elim b [
-        | false ↦ record { uncommitted = []; answers = answer (w .number) 0 (run (w .fragment) cs [] .outcome) ∷ [] }
-        | true ↦ record { uncommitted = begun w (run (w .fragment) cs []) Sent ∷ []; answers = answer (w .number) 0 (run (w .fragment) cs [] .outcome) ∷ [] }
-      ]
-
-      go : (b : Bool) → multi (w .fragment) ≡ b → Onto cs₀ l (i .past) (run (w .fragment) cs [] .cells) (place b .uncommitted) ws as′ (place b .answers) × All (Plain cs₀ l) (place b .answers)
-      go false e = (settles-at-once w ws cs as′ i e, (plain-first w ws cs as′ i, tt))
-      go true e = (becomes-front w ws cs as′ i e, (plain-first w ws cs as′ i, tt))
-  placed-inv σ (u ∷ us) w ws cs as′ m i = go (multi (w .fragment) && oneCoordinator (w .fragment .coordinator) (u ∷ us)) refl
-    where
-      f : lastFinished (u ∷ us) ≡ true
-      f = may-finished σ u us m
-
-      place : Bool → Place
-      place b = elim b [
-        | false ↦ record { uncommitted = u ∷ us ++ (begun w (run (w .fragment) cs []) (Held (run (w .fragment) cs [] .outcome)) ∷ []); answers = [] }
-        | true ↦ record { uncommitted = u ∷ us ++ (begun w (run (w .fragment) cs []) Sent ∷ []); answers = answer (w .number) (nearest 0 (u ∷ us)) (run (w .fragment) cs [] .outcome) ∷ [] }
-      ]
-
-      go : (b : Bool) → (multi (w .fragment) && oneCoordinator (w .fragment .coordinator) (u ∷ us)) ≡ b
-          → Onto cs₀ l (i .past) (run (w .fragment) cs [] .cells) (place b .uncommitted) ws as′ (place b .answers) × All (Plain cs₀ l) (place b .answers)
-      go false e = (joins-held u us w ws cs as′ i f, tt)
-      go true e = (joins-answered u us w ws cs as′ i f (and-left (multi (w .fragment)) (oneCoordinator (w .fragment .coordinator) (u ∷ us)) e), (plain-answered u us w ws cs as′ i f, tt))
+  placed-inv σ [] w ws cs as′ m i =
+      placed-idle (λ (p : Place). Onto cs₀ l (i .past) (run (w .fragment) cs [] .cells) (p .uncommitted) ws as′ (p .answers) × All (Plain cs₀ l) (p .answers)) w (run (w .fragment) cs [])
+      (λ e. (settles-at-once w ws cs as′ i e, (plain-first w ws cs as′ i, tt))) (λ e. (becomes-front w ws cs as′ i e, (plain-first w ws cs as′ i, tt)))
+  placed-inv σ (u ∷ us) w ws cs as′ m i =
+      let f = may-finished σ u us m in
+      placed-behind (λ (p : Place). Onto cs₀ l (i .past) (run (w .fragment) cs [] .cells) (p .uncommitted) ws as′ (p .answers) × All (Plain cs₀ l) (p .answers)) u us w (run (w .fragment) cs [])
+      (joins-held u us w ws cs as′ i f, tt) (λ e. (joins-answered u us w ws cs as′ i f e, (plain-answered u us w ws cs as′ i f, tt)))
 
 -- after a drain that began with the past P
 pub record After (cs₀ : Cells) (l P : Log) (as′ : List Answer) (q : Queues) : Type 0 where
@@ -208,25 +189,16 @@ pub record After (cs₀ : Cells) (l P : Log) (as′ : List Answer) (q : Queues) 
 pub drain-inv : (σ : Scheme) (cs₀ : Cells) (top : ℕ) (l : Log) → InOrder 0 top l → (cs : Cells) (us : List Uncommitted) (ws : List Waiting) (as′ : List Answer) (i : Inv cs₀ l cs us ws as′) → After cs₀ l (i .past) as′ (drain σ cs us ws)
 unfolding drain
 drain-inv σ cs₀ top l rises cs us [] as′ i = record { inv = rw append-nil i; idle = λ _. refl; plain = tt; singles = singled-none cs₀ l (i .past) l (settled-is cs₀ l cs us [] as′ i (λ _. refl) .0) }
-drain-inv σ cs₀ top l rises cs us (w ∷ ws) as′ i = go (mayTake σ us) refl (λ cs′ us′ as″ i′. drain-inv σ cs₀ top l rises cs′ us′ ws as″ i′)
-  where
-    q : Queues
-    q = drain σ (run (w .fragment) cs [] .cells) (placed us w (run (w .fragment) cs []) .uncommitted) ws
-
-    go : (b : Bool) → mayTake σ us ≡ b → ((cs′ : Cells) (us′ : List Uncommitted) (as″ : List Answer) (i′ : Inv cs₀ l cs′ us′ ws as″) → After cs₀ l (i′ .past) as″ (drain σ cs′ us′ ws))
-        → After cs₀ l (i .past) as′ (elim b [
-          | false ↦ record { cells = cs; uncommitted = us; waiting = w ∷ ws; answers = [] }
-          | true ↦ sending (placed us w (run (w .fragment) cs []) .answers) q
-        ])
-    go false e rec =
-        let none : us ≡ [] → w ∷ ws ≡ [] = λ h. absurd (true≢false (sym (ap (mayTake σ) h) ∙ e)) in
-        record { inv = rw append-nil i; idle = none; plain = tt; singles = singled-none cs₀ l (i .past) l (settled-is cs₀ l cs us (w ∷ ws) as′ i none .0) }
-    go true e rec =
-        let p = placed-inv cs₀ top l rises σ us w ws cs as′ e i in
-        let a = rec (run (w .fragment) cs [] .cells) (placed us w (run (w .fragment) cs []) .uncommitted) (as′ ++ placed us w (run (w .fragment) cs []) .answers) (p .0 .0) in
-        record {
-          inv = subst (λ (x : List Answer). Inv cs₀ l (q .cells) (q .uncommitted) (q .waiting) x) (append-assoc as′ (placed us w (run (w .fragment) cs []) .answers) (q .answers)) (a .inv);
-          idle = a .idle;
-          plain = all-append (Plain cs₀ l) (placed us w (run (w .fragment) cs []) .answers) (q .answers) (p .1) (a .plain);
-          singles = singled-both cs₀ l (i .past) (p .0 .0 .past) l (placed us w (run (w .fragment) cs []) .answers) (q .answers) (p .0 .1) (a .singles);
-        }
+drain-inv σ cs₀ top l rises cs us (w ∷ ws) as′ i = drain-cases (After cs₀ l (i .past) as′) σ cs us w ws
+    (λ e. let none : us ≡ [] → w ∷ ws ≡ [] = λ h. absurd (true≢false (sym (ap (mayTake σ) h) ∙ e)) in
+    record { inv = rw append-nil i; idle = none; plain = tt; singles = singled-none cs₀ l (i .past) l (settled-is cs₀ l cs us (w ∷ ws) as′ i none .0) })
+    (λ e. let pl : Place = placed us w (run (w .fragment) cs []) in
+    let q : Queues = drain σ (run (w .fragment) cs [] .cells) (pl .uncommitted) ws in
+    let p = placed-inv cs₀ top l rises σ us w ws cs as′ e i in
+    let a = drain-inv σ cs₀ top l rises (run (w .fragment) cs [] .cells) (pl .uncommitted) ws (as′ ++ pl .answers) (p .0 .0) in
+    record {
+      inv = subst (λ (x : List Answer). Inv cs₀ l (q .cells) (q .uncommitted) (q .waiting) x) (append-assoc as′ (pl .answers) (q .answers)) (a .inv);
+      idle = a .idle;
+      plain = all-append (Plain cs₀ l) (pl .answers) (q .answers) (p .1) (a .plain);
+      singles = singled-both cs₀ l (i .past) (p .0 .0 .past) l (pl .answers) (q .answers) (p .0 .1) (a .singles);
+    })

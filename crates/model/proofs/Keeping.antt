@@ -21,6 +21,7 @@ use Rattle.model.specs.declared.Did.the-variants.{Number, Fails}
 use Rattle.model.proofs.Chain.{All, all-append}
 use Rattle.model.proofs.Tests.{both, and-left, and-right, or-left, or-right, or-true, every-append}
 use Rattle.model.proofs.Taking.{may-less, may-finished}
+use Rattle.model.proofs.Branches.{placed-idle, placed-behind, settled-cases, drain-cases, held-cases}
 use Rattle.model.proofs.Sound.{cellInside, SoundOne, Stored, badFront, Sound}
 
 -- What a run leaves
@@ -160,20 +161,8 @@ ready-same u v (x ∷ us) e r = subst (λ (s : State). (finished s && ready (x �
 -- take the first waiting one and run it
 pub placed-sound : (σ : Scheme) (ct top : ℕ) (us : List Uncommitted) (w : Waiting) (ws : List Waiting) (cs : Cells) → mayTake σ us ≡ true → Sound ct top us (w ∷ ws)
     → Sound ct top (placed us w (run (w .fragment) cs []) .uncommitted) ws × (length (placed us w (run (w .fragment) cs []) .answers) ≤ 1)
-unfolding placed
-placed-sound σ ct top [] w ws cs m s = go (multi (w .fragment)) refl
-  where
-    r : Ran
-    r = run (w .fragment) cs []
-
-    place : Bool → Place
-    place b = elim b [
-      | false ↦ record { uncommitted = []; answers = answer (w .number) 0 (run (w .fragment) cs [] .outcome) ∷ [] }
-      | true ↦ record { uncommitted = begun w (run (w .fragment) cs []) Sent ∷ []; answers = answer (w .number) 0 (run (w .fragment) cs [] .outcome) ∷ [] }
-    ]
-
-    go : (b : Bool) → multi (w .fragment) ≡ b → Sound ct top (place b .uncommitted) ws × (length (place b .answers) ≤ 1)
-    go false e = (
+placed-sound σ ct top [] w ws cs m s = placed-idle (λ (p : Place). Sound ct top (p .uncommitted) ws × (length (p .answers) ≤ 1)) w (run (w .fragment) cs [])
+    (λ e. (
       record {
         cells = s .cells;
         sixteen = omega arith;
@@ -186,8 +175,8 @@ placed-sound σ ct top [] w ws cs m s = go (multi (w .fragment)) refl
         ready = refl;
       },
       omega arith,
-    )
-    go true e = (
+    ))
+    (λ e. (
       record {
         cells = s .cells;
         sixteen = omega arith;
@@ -200,14 +189,19 @@ placed-sound σ ct top [] w ws cs m s = go (multi (w .fragment)) refl
         ready = refl;
       },
       omega arith,
+    ))
+placed-sound σ ct top (u ∷ us) w ws cs m s =
+    let x = ran-left ct (w .fragment) cs [] (s .waiting .0) refl in
+    let o : Outcome = run (w .fragment) cs [] .outcome in
+    placed-behind (λ (p : Place). Sound ct top (p .uncommitted) ws × (length (p .answers) ≤ 1)) u us w (run (w .fragment) cs []) (
+      join (Held o) (both (leb (length (o .numbers)) mostOperations) (leb (o .place) mostOperations) (le-leb (length (o .numbers)) mostOperations (x .numbers)) (le-leb (o .place) mostOperations (x .place))) refl
+          (or-true (multi (w .fragment)) true refl),
+      omega arith,
     )
-placed-sound σ ct top (u ∷ us) w ws cs m s = go (multi (w .fragment) && oneCoordinator (w .fragment .coordinator) (u ∷ us)) refl
+    (λ e. (join Sent refl refl (ap (λ (b : Bool). b || false) e), omega arith))
   where
     less : length (u ∷ us) < depth
     less = ltb-true (length (u ∷ us)) depth (may-less σ u us m)
-
-    new : Reply → Uncommitted
-    new a = begun w (run (w .fragment) cs []) a
 
     join : (a : Reply) → fits a ≡ true → isReply a ≡ true → (multi (w .fragment) || holds a) ≡ true → Sound ct top (u ∷ us ++ (begun w (run (w .fragment) cs []) a ∷ [])) ws
     join a x r y = record {
@@ -222,45 +216,15 @@ placed-sound σ ct top (u ∷ us) w ws cs m s = go (multi (w .fragment) && oneCo
       ready = ready-snoc u us (begun w (run (w .fragment) cs []) a) (s .ready) (may-finished σ u us m);
     }
 
-    place : Bool → Place
-    place b = elim b [
-      | false ↦ record { uncommitted = u ∷ us ++ (begun w (run (w .fragment) cs []) (Held (run (w .fragment) cs [] .outcome)) ∷ []); answers = [] }
-      | true ↦ record { uncommitted = u ∷ us ++ (begun w (run (w .fragment) cs []) Sent ∷ []); answers = answer (w .number) (nearest 0 (u ∷ us)) (run (w .fragment) cs [] .outcome) ∷ [] }
-    ]
-
-    go : (b : Bool) → (multi (w .fragment) && oneCoordinator (w .fragment .coordinator) (u ∷ us)) ≡ b → Sound ct top (place b .uncommitted) ws × (length (place b .answers) ≤ 1)
-    go false e =
-        let x = ran-left ct (w .fragment) cs [] (s .waiting .0) refl in
-        let o : Outcome = run (w .fragment) cs [] .outcome in (
-          join (Held o) (both (leb (length (o .numbers)) mostOperations) (leb (o .place) mostOperations) (le-leb (length (o .numbers)) mostOperations (x .numbers)) (le-leb (o .place) mostOperations (x .place))) refl
-              (or-true (multi (w .fragment)) true refl),
-          omega arith,
-        )
-    go true e = (join Sent refl refl (ap (λ (b : Bool). b || false) (and-left (multi (w .fragment)) (oneCoordinator (w .fragment .coordinator) (u ∷ us)) e)), omega arith)
-
 pub drain-sound : (σ : Scheme) (ct top : ℕ) (cs : Cells) (us : List Uncommitted) (ws : List Waiting) → Sound ct top us ws
     → Sound ct top (drain σ cs us ws .uncommitted) (drain σ cs us ws .waiting) × (length (drain σ cs us ws .answers) ≤ length ws)
 unfolding drain
 drain-sound σ ct top cs us [] s = (s, omega arith)
-drain-sound σ ct top cs us (w ∷ ws) s = go (mayTake σ us) refl (λ cs′ us′ s′. drain-sound σ ct top cs′ us′ ws s′)
-  where
-    p : Place
-    p = placed us w (run (w .fragment) cs [])
-
-    q : Queues
-    q = drain σ (run (w .fragment) cs [] .cells) (placed us w (run (w .fragment) cs []) .uncommitted) ws
-
-    all : Bool → Queues
-    all b = elim b [ false ↦ record { cells = cs; uncommitted = us; waiting = w ∷ ws; answers = [] } | true ↦ sending (placed us w (run (w .fragment) cs []) .answers) q ]
-
-    go : (b : Bool) → mayTake σ us ≡ b
-        → ((cs′ : Cells) (us′ : List Uncommitted) → Sound ct top us′ ws → Sound ct top (drain σ cs′ us′ ws .uncommitted) (drain σ cs′ us′ ws .waiting) × (length (drain σ cs′ us′ ws .answers) ≤ length ws))
-        → Sound ct top (all b .uncommitted) (all b .waiting) × (length (all b .answers) ≤ suc (length ws))
-    go false e rec = (s, omega arith)
-    go true e rec =
-        let h = placed-sound σ ct top us w ws cs e s in
-        let x = rec (run (w .fragment) cs [] .cells) (placed us w (run (w .fragment) cs []) .uncommitted) (h .0) in
-        (x .0, omega (arith, h .1, x .1, length-append (placed us w (run (w .fragment) cs []) .answers) (q .answers)))
+drain-sound σ ct top cs us (w ∷ ws) s = drain-cases (λ (q : Queues). Sound ct top (q .uncommitted) (q .waiting) × (length (q .answers) ≤ suc (length ws))) σ cs us w ws
+    (λ _. (s, omega arith))
+    (λ e. let h = placed-sound σ ct top us w ws cs e s in
+    let x = drain-sound σ ct top (run (w .fragment) cs [] .cells) (placed us w (run (w .fragment) cs []) .uncommitted) ws (h .0) in
+    (x .0, omega (arith, h .1, x .1, length-append (placed us w (run (w .fragment) cs []) .answers) (drain σ (run (w .fragment) cs [] .cells) (placed us w (run (w .fragment) cs []) .uncommitted) ws .answers))))
 
 -- Settling: what is behind the front, before the singles have settled
 pub record Half (ct top : ℕ) (us : List Uncommitted) (ws : List Waiting) : Type 0 where
@@ -298,12 +262,7 @@ front-leaves ct top u us ws s = record {
 }
 
 held-one : (u : Uncommitted) → length (heldBy u) ≤ 1
-held-one u = go (u .reply)
-  where
-    go : (a : Reply) → length {A = Answer} (elim a [ Held o ↦ answer (u .number) 0 o ∷ [] | Sent ↦ [] | NoReply ↦ [] ]) ≤ 1
-    go (Held o) = omega arith
-    go Sent = omega arith
-    go NoReply = omega arith
+held-one u = held-cases (λ (a : List Answer). length a ≤ 1) u (λ o _. omega arith) (λ _. omega arith)
 
 sent-sound : (ct : ℕ) (u : Uncommitted) → multi (u .first) ≡ true → SoundOne ct u → SoundOne ct (sent u)
 sent-sound ct u e o = record {
@@ -320,16 +279,8 @@ sent-sound ct u e o = record {
 pub settled-sound : (ct top : ℕ) (us : List Uncommitted) (ws : List Waiting) → Half ct top us ws → Sound ct top (settled us .uncommitted) ws × (length (settled us .answers) ≤ length us)
 unfolding settled
 settled-sound ct top [] ws h = (record { cells = h .cells; sixteen = h .sixteen; sixtyFour = h .sixtyFour; rises = h .rises; each = tt; waiting = h .waiting; ones = tt; front = refl; ready = refl }, omega arith)
-settled-sound ct top (u ∷ us) ws h = go (multi (u .first)) refl (settled-sound ct top us ws (half-tail ct top u us ws h))
-  where
-    place : Bool → Place
-    place b = elim b [
-      | true ↦ record { uncommitted = sent u ∷ us; answers = heldBy u }
-      | false ↦ record { uncommitted = settled us .uncommitted; answers = heldBy u ++ settled us .answers }
-    ]
-
-    go : (b : Bool) → multi (u .first) ≡ b → Sound ct top (settled us .uncommitted) ws × (length (settled us .answers) ≤ length us) → Sound ct top (place b .uncommitted) ws × (length (place b .answers) ≤ suc (length us))
-    go true e x = (
+settled-sound ct top (u ∷ us) ws h = settled-cases (λ (p : Place). Sound ct top (p .uncommitted) ws × (length (p .answers) ≤ suc (length us))) u us
+    (λ e. (
       record {
         cells = h .cells;
         sixteen = h .sixteen;
@@ -342,8 +293,8 @@ settled-sound ct top (u ∷ us) ws h = go (multi (u .first)) refl (settled-sound
         ready = ready-same u (sent u) us refl (h .ready);
       },
       omega (arith, held-one u),
-    )
-    go false e x = (x .0, omega (arith, held-one u, x .1, length-append (heldBy u) (settled us .answers)))
+    ))
+    (λ _. let x = settled-sound ct top us ws (half-tail ct top u us ws h) in (x .0, omega (arith, held-one u, x .1, length-append (heldBy u) (settled us .answers))))
 
 -- The four steps
 

@@ -4,6 +4,7 @@ pub mod Logs
 pub mod Chain
 pub mod Replying
 pub mod Taking
+pub mod Branches
 pub mod Draining
 pub mod Settling
 pub mod Passing

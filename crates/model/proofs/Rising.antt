@@ -13,6 +13,7 @@ use Rattle.model.specs.Refusals.{Request, Arrive, Commit, Abort, request
 use Rattle.model.specs.Demand.{Rises}
 use Rattle.model.specs.declared.Fragment.{Fragment}
 use Rattle.model.specs.declared.Scheme.{Scheme}
+use Rattle.model.proofs.Branches.{placed-idle, placed-behind, settled-cases, drain-cases, held-cases}
 use Rattle.model.proofs.Passing.{Passed, passed, front-or-new}
 use Rattle.model.proofs.Sound.{Sound, SoundEngine, sound-parts}
 use Rattle.model.proofs.Keeping.{rises-weaken, numbers-requeued, numbers-more, rises-more}
@@ -23,52 +24,17 @@ rising-low m n (a ∷ l) k h = (omega (arith, h .0), h .1)
 
 -- at most one answer for the first of the queue, then others
 placed-rising : (n : ℕ) (us : List Uncommitted) (w : Waiting) (cs : Cells) (l : List Answer) → n < w .number → Rising (w .number) l → Rising n (placed us w (run (w .fragment) cs []) .answers ++ l)
-unfolding placed
-placed-rising n [] w cs l k h = go (multi (w .fragment))
-  where
-    place : Bool → Place
-    place b = elim b [
-      | false ↦ record { uncommitted = []; answers = answer (w .number) 0 (run (w .fragment) cs [] .outcome) ∷ [] }
-      | true ↦ record { uncommitted = begun w (run (w .fragment) cs []) Sent ∷ []; answers = answer (w .number) 0 (run (w .fragment) cs [] .outcome) ∷ [] }
-    ]
-
-    go : (b : Bool) → Rising n (place b .answers ++ l)
-    go false = (k, h)
-    go true = (k, h)
-placed-rising n (u ∷ us) w cs l k h = go (multi (w .fragment) && oneCoordinator (w .fragment .coordinator) (u ∷ us))
-  where
-    place : Bool → Place
-    place b = elim b [
-      | false ↦ record { uncommitted = u ∷ us ++ (begun w (run (w .fragment) cs []) (Held (run (w .fragment) cs [] .outcome)) ∷ []); answers = [] }
-      | true ↦ record { uncommitted = u ∷ us ++ (begun w (run (w .fragment) cs []) Sent ∷ []); answers = answer (w .number) (nearest 0 (u ∷ us)) (run (w .fragment) cs [] .outcome) ∷ [] }
-    ]
-
-    go : (b : Bool) → Rising n (place b .answers ++ l)
-    go false = rising-low n (w .number) l (omega arith) h
-    go true = (k, h)
+placed-rising n [] w cs l k h = placed-idle (λ (p : Place). Rising n (p .answers ++ l)) w (run (w .fragment) cs []) (λ _. (k, h)) (λ _. (k, h))
+placed-rising n (u ∷ us) w cs l k h =
+    placed-behind (λ (p : Place). Rising n (p .answers ++ l)) u us w (run (w .fragment) cs []) (rising-low n (w .number) l (omega arith) h) (λ _. (k, h))
 
 drain-rising : (σ : Scheme) (n top : ℕ) (cs : Cells) (us : List Uncommitted) (ws : List Waiting) → Rises n top (numbers [] ws) → Rising n (drain σ cs us ws .answers)
 unfolding drain
 drain-rising σ n top cs us [] h = tt
-drain-rising σ n top cs us (w ∷ ws) h = go (mayTake σ us) (λ cs′ us′. drain-rising σ (w .number) top cs′ us′ ws (h .1))
-  where
-    q : Queues
-    q = drain σ (run (w .fragment) cs [] .cells) (placed us w (run (w .fragment) cs []) .uncommitted) ws
-
-    all : Bool → Queues
-    all b = elim b [ false ↦ record { cells = cs; uncommitted = us; waiting = w ∷ ws; answers = [] } | true ↦ sending (placed us w (run (w .fragment) cs []) .answers) q ]
-
-    go : (b : Bool) → ((cs′ : Cells) (us′ : List Uncommitted) → Rising (w .number) (drain σ cs′ us′ ws .answers)) → Rising n (all b .answers)
-    go false rec = tt
-    go true rec = placed-rising n us w cs (q .answers) (h .0) (rec (run (w .fragment) cs [] .cells) (placed us w (run (w .fragment) cs []) .uncommitted))
+drain-rising σ n top cs us (w ∷ ws) h = drain-cases (λ (q : Queues). Rising n (q .answers)) σ cs us w ws (λ _. tt) (λ _. placed-rising n us w cs _ (h .0) (drain-rising σ (w .number) top _ _ ws (h .1)))
 
 held-rising : (n : ℕ) (u : Uncommitted) (l : List Answer) → n < u .number → Rising (u .number) l → Rising n (heldBy u ++ l)
-held-rising n u l k h = go (u .reply)
-  where
-    go : (a : Reply) → Rising n ((elim a as (λ _. List Answer) [ Held o ↦ answer (u .number) 0 o ∷ [] | Sent ↦ [] | NoReply ↦ [] ]) ++ l)
-    go (Held o) = (k, h)
-    go Sent = rising-low n (u .number) l (omega arith) h
-    go NoReply = rising-low n (u .number) l (omega arith) h
+held-rising n u l k h = held-cases (λ (a : List Answer). Rising n (a ++ l)) u (λ o _. (k, h)) (λ _. rising-low n (u .number) l (omega arith) h)
 
 waits-rise : (n top : ℕ) (us : List Uncommitted) (ws : List Waiting) → Rises n top (numbers us ws) → Rises n top (numbers [] ws)
 waits-rise n top [] ws h = h
@@ -78,17 +44,9 @@ waits-rise n top (u ∷ us) ws h = rises-weaken n (u .number) top (numbers [] ws
 settled-rising : (n top : ℕ) (us : List Uncommitted) (ws : List Waiting) (l : List Answer) → Rises n top (numbers us ws) → ((m : ℕ) → Rises m top (numbers [] ws) → Rising m l) → Rising n (settled us .answers ++ l)
 unfolding settled
 settled-rising n top [] ws l h t = t n h
-settled-rising n top (u ∷ us) ws l h t = go (multi (u .first)) (settled-rising (u .number) top us ws l (h .1) t)
-  where
-    place : Bool → Place
-    place b = elim b [
-      | true ↦ record { uncommitted = sent u ∷ us; answers = heldBy u }
-      | false ↦ record { uncommitted = settled us .uncommitted; answers = heldBy u ++ settled us .answers }
-    ]
-
-    go : (b : Bool) → Rising (u .number) (settled us .answers ++ l) → Rising n (place b .answers ++ l)
-    go true r = held-rising n u l (h .0) (t (u .number) (waits-rise (u .number) top us ws (h .1)))
-    go false r = subst (Rising n) (sym (append-assoc (heldBy u) (settled us .answers) l)) (held-rising n u (settled us .answers ++ l) (h .0) r)
+settled-rising n top (u ∷ us) ws l h t = settled-cases (λ (p : Place). Rising n (p .answers ++ l)) u us
+    (λ _. held-rising n u l (h .0) (t (u .number) (waits-rise (u .number) top us ws (h .1))))
+    (λ _. subst (Rising n) (sym (append-assoc (heldBy u) (settled us .answers) l)) (held-rising n u (settled us .answers ++ l) (h .0) (settled-rising (u .number) top us ws l (h .1) t)))
 
 module _ (σ : Scheme) (top : ℕ) (cs : Cells) (ws : List Waiting) where
   joined-rising : (n : ℕ) (f : Fragment) (us : List Uncommitted) → Rises 0 top (numbers us ws) → top < n → Rising 0 (joined σ n f cs us ws .answers)

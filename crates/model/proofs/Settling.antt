@@ -16,6 +16,7 @@ use Rattle.model.specs.declared.Scheme.{Scheme}
 use Rattle.model.proofs.Logs.{InOrder, rises-at, rises-put, rises-more, rises-below, gives-at, Past, Closed, closed-snoc, past-settles, past-gone, at-at, Grows, grows-more, grows-put}
 use Rattle.model.proofs.Chain.{asTx, txOf, lives, Entry, Chain, ButLast, FrontMulti, Pend, InPast, Followed, All, all-map, all-append, Inv, chain-undone, lives-requeued, ready-tail, again-entry, sent-is-not-held, followed-idle, in-past, pend-multi-leaves, pend-single-leaves, pend-front, pend-alone, settled-is}
 use Rattle.model.proofs.Replying.{Singled, singled-none, singled-both, singled-from, singled-multi, singled-settles, singled-commit, singled-gone}
+use Rattle.model.proofs.Branches.{settled-cases, held-cases}
 use Rattle.model.proofs.Draining.{Plain, After, drain-inv, past-if}
 
 -- an answer without a dependence, and right
@@ -47,43 +48,27 @@ ready-sent u (v ∷ us) r = r
 
 module _ (cs₀ : Cells) (top : ℕ) (l : Log) (rises : InOrder 0 top l) (cs : Cells) (k : ℕ) (ws : List Waiting) (as′ : List Answer) where
   held-sure : (u : Uncommitted) (us : List Uncommitted) → Mid cs₀ l cs k (u ∷ us) ws as′ → All (Sure cs₀ l) (heldBy u)
-  held-sure u us m = go (u .reply) refl
-    where
-      go : (a : Reply) → u .reply ≡ a → All (Sure cs₀ l) (elim a [ Held o ↦ answer (u .number) 0 o ∷ [] | Sent ↦ [] | NoReply ↦ [] ])
-      go (Held o) e = (
-        (
-          refl,
-          gives-at cs₀ top l (m .past) (txOf [] u) (lives [] us ++ map asTx ws) o rises (m .split)
-              (m .chain .0 .says o e ∙ ap (λ (x : Cells). told (attempt (txOf [] u) x)) (sym (m .based))),
-        ),
-        tt,
-      )
-      go Sent e = tt
-      go NoReply e = tt
+  held-sure u us m = held-cases (All (Sure cs₀ l)) u (λ o e. (
+    (
+      refl,
+      gives-at cs₀ top l (m .past) (txOf [] u) (lives [] us ++ map asTx ws) o rises (m .split)
+          (m .chain .0 .says o e ∙ ap (λ (x : Cells). told (attempt (txOf [] u) x)) (sym (m .based))),
+    ),
+    tt,
+  )) (λ _. tt)
 
   -- a single that settles holds its answer; a multi that holds one is no single
   held-single : (u : Uncommitted) (us : List Uncommitted) (m : Mid cs₀ l cs k (u ∷ us) ws as′) → multi (u .first) ≡ false → Singled cs₀ l (m .past) (m .past ++ txOf [] u ∷ []) (heldBy u)
-  held-single u us m e = go (u .reply) refl (m .chain .0 .held)
-    where
-      st : standing (txOf [] u) ≡ Settles
-      st = ap {B = Standing} (λ (b : Bool). elim b [ false ↦ Settles | true ↦ Undecided ]) e
-
-      none : {A : Type 0} → (multi (u .first) || false) ≡ true → A
-      none h = absurd (true≢false (sym h ∙ ap (λ (b : Bool). b || false) e))
-
-      go : (a : Reply) → u .reply ≡ a → (multi (u .first) || holds a) ≡ true → Singled cs₀ l (m .past) (m .past ++ txOf [] u ∷ []) (elim a [ Held o ↦ answer (u .number) 0 o ∷ [] | Sent ↦ [] | NoReply ↦ [] ])
-      go (Held o) x h = singled-settles cs₀ top l (m .past) (txOf [] u) (lives [] us ++ map asTx ws) (answer (u .number) 0 o) rises (m .split) (m .closed) st e
-          (ap (answer (u .number) 0) (m .chain .0 .says o x ∙ ap (λ (y : Cells). told (attempt (txOf [] u) y)) (sym (m .based))))
-      go Sent x h = none h
-      go NoReply x h = none h
+  held-single u us m e = held-cases (Singled cs₀ l (m .past) (m .past ++ txOf [] u ∷ [])) u
+      (λ o x. singled-settles cs₀ top l (m .past) (txOf [] u) (lives [] us ++ map asTx ws) (answer (u .number) 0 o) rises (m .split) (m .closed)
+      (ap {B = Standing} (λ (b : Bool). elim b [ false ↦ Settles | true ↦ Undecided ]) e) e
+      (ap (answer (u .number) 0) (m .chain .0 .says o x ∙ ap (λ (y : Cells). told (attempt (txOf [] u) y)) (sym (m .based)))))
+      (λ n. absurd (true≢false (sym (m .chain .0 .held) ∙ (λ i. e i || n i))))
 
   held-multi : (u : Uncommitted) (us : List Uncommitted) (m : Mid cs₀ l cs k (u ∷ us) ws as′) → multi (u .first) ≡ true → Singled cs₀ l (m .past) (m .past) (heldBy u)
-  held-multi u us m e = go (u .reply)
-    where
-      go : (a : Reply) → Singled cs₀ l (m .past) (m .past) (elim a [ Held o ↦ answer (u .number) 0 o ∷ [] | Sent ↦ [] | NoReply ↦ [] ])
-      go (Held o) = singled-multi cs₀ top l (m .past) (m .past) (txOf [] u) (lives [] us ++ map asTx ws) (answer (u .number) 0 o) (m .past) rises (m .split) e refl refl
-      go Sent = singled-none cs₀ l (m .past) (m .past) refl
-      go NoReply = singled-none cs₀ l (m .past) (m .past) refl
+  held-multi u us m e = held-cases (Singled cs₀ l (m .past) (m .past)) u
+      (λ o _. singled-multi cs₀ top l (m .past) (m .past) (txOf [] u) (lives [] us ++ map asTx ws) (answer (u .number) 0 o) (m .past) rises (m .split) e refl refl)
+      (λ _. singled-none cs₀ l (m .past) (m .past) refl)
 
   -- a multi is first: the new front
   new-front : (u : Uncommitted) (us : List Uncommitted) → multi (u .first) ≡ true → Mid cs₀ l cs k (u ∷ us) ws as′ → Inv cs₀ l cs (sent u ∷ us) ws as′
@@ -167,21 +152,13 @@ module _ (cs₀ : Cells) (top : ℕ) (l : Log) (rises : InOrder 0 top l) (cs : C
     ),
     tt,
   )
-  settled-inv (u ∷ us) m = go (multi (u .first)) refl (λ m′. settled-inv us m′)
-    where
-      place : Bool → Place
-      place b = elim b [
-        | true ↦ record { uncommitted = sent u ∷ us; answers = heldBy u }
-        | false ↦ record { uncommitted = settled us .uncommitted; answers = heldBy u ++ settled us .answers }
-      ]
-
-      go : (b : Bool) → multi (u .first) ≡ b
-          → ((m′ : Mid cs₀ l cs k us ws as′) → ((j : Inv cs₀ l cs (settled us .uncommitted) ws as′) × Singled cs₀ l (m′ .past) (j .past) (settled us .answers)) × All (Sure cs₀ l) (settled us .answers))
-          → ((j : Inv cs₀ l cs (place b .uncommitted) ws as′) × Singled cs₀ l (m .past) (j .past) (place b .answers)) × All (Sure cs₀ l) (place b .answers)
-      go true e rec = ((new-front u us e m, held-multi u us m e), held-sure u us m)
-      go false e rec =
-          let x = rec (single-settles u us e m) in
-          ((x .0 .0, singled-both cs₀ l (m .past) (m .past ++ txOf [] u ∷ []) (x .0 .0 .past) (heldBy u) (settled us .answers) (held-single u us m e) (x .0 .1)), all-append (Sure cs₀ l) (heldBy u) (settled us .answers) (held-sure u us m) (x .1))
+  settled-inv (u ∷ us) m =
+      settled-cases (λ (p : Place). ((j : Inv cs₀ l cs (p .uncommitted) ws as′) × Singled cs₀ l (m .past) (j .past) (p .answers)) × All (Sure cs₀ l) (p .answers)) u us
+      (λ e. ((new-front u us e m, held-multi u us m e), held-sure u us m))
+      (λ e. let x = settled-inv us (single-settles u us e m) in (
+        (x .0 .0, singled-both cs₀ l (m .past) (m .past ++ txOf [] u ∷ []) (x .0 .0 .past) (heldBy u) (settled us .answers) (held-single u us m e) (x .0 .1)),
+        all-append (Sure cs₀ l) (heldBy u) (settled us .answers) (held-sure u us m) (x .1),
+      ))
 
 -- after an accepted call: the log was l and is l′, the largest number top′
 pub record Got (cs₀ : Cells) (l l′ : Log) (top′ : ℕ) (as′ : List Answer) (q : Queues) : Type 0 where
