@@ -18,7 +18,7 @@ use Rattle.model.specs.declared.Event.{Event}
 use Rattle.model.specs.declared.Fragment.{Fragment}
 use Rattle.model.specs.declared.Scheme.{Scheme}
 use Rattle.model.proofs.Chain.{All, all-append}
-use Rattle.model.proofs.Passing.{Passed, front-or-new, front-if-known, and-if, and-unless}
+use Rattle.model.proofs.Passing.{Passed, front-or-new, and-if, decides-front}
 use Rattle.model.proofs.Tests.{both}
 use Rattle.model.proofs.Sound.{Sound, sound-parts, entries-depth, entries-most}
 use Rattle.model.proofs.Keeping.{joined-sound, continued-sound, settled-sound, front-leaves, aborted-sound, alone}
@@ -76,8 +76,7 @@ module _ (σ : Scheme) (live₀ runs undo room : List ℕ) (cells : Cells) (c : 
 
   -- a decision is for the front
   decided : eqb (v .kind) 1 ≡ false → isFront (v .number) e ≡ true
-  decided a =
-      front-if-known (live (v .number) e) (new (v .number) e) (isFront (v .number) e) (rd .passed .six) (rd .passed .seven) (and-unless (eqb (v .kind) 1) (new (v .number) e) a (rd .passed .twelve))
+  decided a = decides-front e (callOf σ v cells room) a (rd .passed)
 
   pub some-uncommitted : eqb (v .kind) 1 ≡ false → 0 < c .uncommitted
   some-uncommitted a = go (e .uncommitted) (decided a) (rd .work .uncommitted)

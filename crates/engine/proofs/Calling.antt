@@ -16,6 +16,7 @@ use Rattle.model.specs.Refusals.{Call, Stepped, Request, Arrive, Commit, Abort,
 use Rattle.model.specs.Refusals as Refusals
 use Rattle.model.specs.declared.Event.{Event}
 use Rattle.model.specs.declared.Scheme.{Scheme}
+use Rattle.model.proofs.Branches.{request-cases}
 use Rattle.model.proofs.Chain.{All}
 use Rattle.model.proofs.Passing.{Passed, passed}
 use Rattle.refusals.specs.Rest.{callOf}
@@ -90,14 +91,14 @@ ready σ r v cells room n live runs undo z t h =
 
 -- the largest number, of the request and of the event's words
 largest-by : (v : Event) (e : Engine) → largestBy (v .kind) (v .number) (e .largest) ≡ largestAfter (request v) e
-largest-by v e = go (eqb (v .kind) 1) (eqb (v .kind) 2) (ltb (e .largest) (v .number)) refl
+largest-by v e = request-cases (λ (q : Request). largestBy (v .kind) (v .number) (e .largest) ≡ largestAfter q e) v
+    (λ a. ap (λ (b : Bool). pick b (pick (ltb (e .largest) (v .number)) (v .number) (e .largest)) (e .largest)) a ∙ either (ltb (e .largest) (v .number)))
+    (λ a. ap (λ (b : Bool). pick b (pick (ltb (e .largest) (v .number)) (v .number) (e .largest)) (e .largest)) a)
+    (λ a. ap (λ (b : Bool). pick b (pick (ltb (e .largest) (v .number)) (v .number) (e .largest)) (e .largest)) a)
   where
-    go : (a b n : Bool) → ltb (e .largest) (v .number) ≡ n → pick a (pick n (v .number) (e .largest)) (e .largest)
-        ≡ largestAfter (elim a [ true ↦ Arrive (v .number) (v .fragment) | false ↦ elim b [ true ↦ Commit (v .number) | false ↦ Abort (v .number) ] ]) e
-    go true b true x = ap {B = ℕ} (λ (y : Bool). elim y [ true ↦ v .number | false ↦ e .largest ]) (sym x)
-    go true b false x = ap {B = ℕ} (λ (y : Bool). elim y [ true ↦ v .number | false ↦ e .largest ]) (sym x)
-    go false true n x = refl
-    go false false n x = refl
+    either : (n : Bool) → pick n (v .number) (e .largest) ≡ elim n [ true ↦ v .number | false ↦ e .largest ]
+    either true = refl
+    either false = refl
 
 -- the row of live ones moved to its start: those that have gone leave no trace
 closed : (live live′ : List ℕ) (gone ws : List Waiting) (k m : ℕ) → live ≡ padded 1792 (allRows (gone ++ ws)) → All Eight gone → All Eight (gone ++ ws) → length gone ≡ k → length (gone ++ ws) ≡ m → m ≤ 64

@@ -9,14 +9,14 @@ use lib.ListN.{length, length-append, length-take}
 use Rattle.model.specs.Operations.{Cells, operate, put, multi, operations}
 use Rattle.model.specs.Transactions.{Reply, Held, Sent, NoReply, Uncommitted, Waiting, Engine, Answer, answer}
 use Rattle.model.specs.Steps.{undone, noted, Ran, runFrom, run, begun, again, oneCoordinator, nearest, mayTake, Place, placed, Queues, sending, drain, joined, continued, arrived, heldBy, sent, settled, committed, requeued, aborted}
-use Rattle.model.specs.Refusals.{Arrive, Commit, Abort, request, taken}
+use Rattle.model.specs.Refusals.{Request, Arrive, Commit, Abort, request, taken}
 use Rattle.model.specs.declared.Op.{Op}
 use Rattle.model.specs.declared.Fragment.{Fragment}
 use Rattle.model.specs.declared.Scheme.{Scheme}
 use Rattle.model.specs.declared.Event.{Event}
 use Rattle.model.specs.declared.Undo.{Undo}
 use Rattle.model.specs.declared.Did.the-variants.{Number, Fails}
-use Rattle.model.proofs.Branches.{placed-idle, placed-behind, settled-cases, drain-cases, held-cases}
+use Rattle.model.proofs.Branches.{placed-idle, placed-behind, settled-cases, drain-cases, held-cases, request-cases}
 use Rattle.model.proofs.Chain.{All, all-append}
 use Rattle.record.specs.Words.{liveRows, heldOutcome}
 use Rattle.record.proofs.Back.{Eight, Fit}
@@ -117,9 +117,5 @@ aborted-fine σ cs (u ∷ us) ws k e = drain-fine σ _ [] (map requeued us ++ ws
 
 -- an accepted request
 pub taken-fine : (σ : Scheme) (v : Event) (e : Engine) (cs : Cells) → Words v → All Kept (e .uncommitted) → All Eight (e .waiting) → Fine (taken σ (request v) e cs)
-taken-fine σ v e cs h k w = go (eqb (v .kind) 1) (eqb (v .kind) 2)
-  where
-    go : (a b : Bool) → Fine (taken σ (elim a [ true ↦ Arrive (v .number) (v .fragment) | false ↦ elim b [ true ↦ Commit (v .number) | false ↦ Abort (v .number) ] ]) e cs)
-    go true b = arrived-fine σ (v .number) (v .fragment) cs (e .uncommitted) (e .waiting) h k w
-    go false true = committed-fine σ cs (e .uncommitted) (e .waiting) k w
-    go false false = aborted-fine σ cs (e .uncommitted) (e .waiting) k w
+taken-fine σ v e cs h k w = request-cases (λ (q : Request). Fine (taken σ q e cs)) v (λ _. arrived-fine σ (v .number) (v .fragment) cs (e .uncommitted) (e .waiting) h k w)
+    (λ _. committed-fine σ cs (e .uncommitted) (e .waiting) k w) (λ _. aborted-fine σ cs (e .uncommitted) (e .waiting) k w)

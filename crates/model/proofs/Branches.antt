@@ -1,12 +1,15 @@
--- The steps by their cases: what holds of each case of a placing, of settling, of a drain and of a held answer holds of the whole. The proofs about
--- the steps go by these.
+-- The steps by their cases: what holds of each case of a placing, of settling, of a drain and of a held answer holds of the whole, and what
+-- holds of each kind of request holds of an event's. The proofs about the steps go by these.
 use Prim.Native.Nat.{ℕ}
 use mathlib.Core.Path.{_≡_, refl}
 use mathlib.Core.Bool.{Bool, true, false, _&&_}
 use mathlib.Core.List.{List, [], _∷_, _++_}
+use lib.Dec.{eqb}
 use Rattle.model.specs.Operations.{Cells, Outcome, multi}
 use Rattle.model.specs.Transactions.{Reply, Held, Sent, NoReply, holds, Uncommitted, Waiting, Answer, answer}
 use Rattle.model.specs.Steps.{Ran, run, begun, oneCoordinator, nearest, mayTake, Place, placed, Queues, sending, drain, heldBy, sent, settled}
+use Rattle.model.specs.Refusals.{Request, Arrive, Commit, Abort, request}
+use Rattle.model.specs.declared.Event.{Event}
 use Rattle.model.specs.declared.Scheme.{Scheme}
 use Rattle.model.proofs.Tests.{and-left}
 
@@ -72,3 +75,12 @@ held-cases P u held none = go (u .reply) refl (λ e. none e)
     go (Held o) e n = held o e
     go Sent e n = n refl
     go NoReply e n = n refl
+
+pub request-cases : (P : Request → Type 0) (v : Event) → (eqb (v .kind) 1 ≡ true → P (Arrive (v .number) (v .fragment))) → (eqb (v .kind) 1 ≡ false → P (Commit (v .number)))
+    → (eqb (v .kind) 1 ≡ false → P (Abort (v .number))) → P (request v)
+request-cases P v arrives commits aborts = go (eqb (v .kind) 1) (eqb (v .kind) 2) refl
+  where
+    go : (a b : Bool) → eqb (v .kind) 1 ≡ a → P (elim a [ true ↦ Arrive (v .number) (v .fragment) | false ↦ elim b [ true ↦ Commit (v .number) | false ↦ Abort (v .number) ] ])
+    go true b e = arrives e
+    go false true e = commits e
+    go false false e = aborts e

@@ -25,7 +25,8 @@ use Rattle.model.proofs.Draining.{Plain, nearest-low}
 use Rattle.model.proofs.Settling.{log-front, rises-log-front, Got, commit-inv, abort-inv, again-inv, new-inv, top-front, rises-front}
 use Rattle.model.specs.Schemes.{SinglesAnswered}
 use Rattle.model.proofs.Replying.{Singled, singled-none}
-use Rattle.model.proofs.Passing.{Passed, passed, took, front-or-new, front-if-known, and-if, and-unless}
+use Rattle.model.proofs.Branches.{request-cases}
+use Rattle.model.proofs.Passing.{Passed, passed, took, front-or-new, and-if, decides-front}
 
 -- Between two calls; as′: answers that depend and were sent since the last accepted abort
 pub record Whole (cs₀ : Cells) (r : Run) (as′ : List Answer) : Type 0 where
@@ -110,49 +111,30 @@ module _ (σ : Scheme) (cs₀ : Cells) (ct top : ℕ) (ws : List Waiting) (cs : 
       go true e = subst (λ (m : ℕ). Got cs₀ l (logged (Arrive m f) l) (largestAfter (Arrive m f) (engineOf (u ∷ us))) as′ (continued σ f cs u us ws)) (eqb-true (u .number) n e)
           (arrive-again u us as′ f i (and-if (eqb (u .number) n) (finished (u .state)) e (and-if (eqb (c .event .kind) 1) _ a (p .eight))))
 
-  -- a decision is for the front
-  decides-front : (us : List Uncommitted) (c : Call) → eqb (c .event .kind) 1 ≡ false → Passed (engineOf us) c → isFront (c .event .number) (engineOf us) ≡ true
-  decides-front us c a p =
-      front-if-known (live (c .event .number) (engineOf us)) (new (c .event .number) (engineOf us)) (isFront (c .event .number) (engineOf us)) (p .six) (p .seven) (and-unless (eqb (c .event .kind) 1) _ a (p .twelve))
-
   accept-commit : (us : List Uncommitted) (as′ : List Answer) (c : Call) → eqb (c .event .kind) 1 ≡ false → Inv cs₀ l cs us ws as′ → Passed (engineOf us) c
       → Got cs₀ l (logged (Commit (c .event .number)) l) top as′ (taken σ (Commit (c .event .number)) (engineOf us) cs)
-  accept-commit [] as′ c a i p = absurd (true≢false (sym (decides-front [] c a p)))
+  accept-commit [] as′ c a i p = absurd (true≢false (sym (decides-front (engineOf []) c a p)))
   accept-commit (u ∷ us) as′ c a i p =
-      subst (λ (m : ℕ). Got cs₀ l (logged (Commit m) l) top as′ (taken σ (Commit m) (engineOf (u ∷ us)) cs)) (eqb-true (u .number) (c .event .number) (decides-front (u ∷ us) c a p))
+      subst (λ (m : ℕ). Got cs₀ l (logged (Commit m) l) top as′ (taken σ (Commit m) (engineOf (u ∷ us)) cs)) (eqb-true (u .number) (c .event .number) (decides-front (engineOf (u ∷ us)) c a p))
       (commit-inv cs₀ top l rises cs ws as′ u us i σ)
 
   accept-abort : (us : List Uncommitted) (as′ : List Answer) (c : Call) → eqb (c .event .kind) 1 ≡ false → Inv cs₀ l cs us ws as′ → Passed (engineOf us) c
       → Got cs₀ l (logged (Abort (c .event .number)) l) top [] (taken σ (Abort (c .event .number)) (engineOf us) cs)
-  accept-abort [] as′ c a i p = absurd (true≢false (sym (decides-front [] c a p)))
+  accept-abort [] as′ c a i p = absurd (true≢false (sym (decides-front (engineOf []) c a p)))
   accept-abort (u ∷ us) as′ c a i p =
-      subst (λ (m : ℕ). Got cs₀ l (logged (Abort m) l) top [] (taken σ (Abort m) (engineOf (u ∷ us)) cs)) (eqb-true (u .number) (c .event .number) (decides-front (u ∷ us) c a p))
+      subst (λ (m : ℕ). Got cs₀ l (logged (Abort m) l) top [] (taken σ (Abort m) (engineOf (u ∷ us)) cs)) (eqb-true (u .number) (c .event .number) (decides-front (engineOf (u ∷ us)) c a p))
       (abort-inv cs₀ top l rises cs ws as′ u us i σ)
 
 -- One call. After an abort no answer is followed any longer.
 
 accept : (σ : Scheme) (cs₀ : Cells) (e : Engine) (cs : Cells) (l : Log) (as′ : List Answer) (c : Call) → Inv cs₀ l cs (e .uncommitted) (e .waiting) as′ → (e .uncommitted ≡ [] → e .waiting ≡ []) → InOrder 0 (e .largest) l → Passed e c
     → ((n : ℕ) → request (c .event) ≡ Abort n → as′ ≡ []) → Got cs₀ l (logged (request (c .event)) l) (largestAfter (request (c .event)) e) as′ (taken σ (request (c .event)) e cs)
-accept σ cs₀ e cs l as′ c i idle h p z = go (eqb (c .event .kind) 1) refl z
-  where
-    n : ℕ
-    n = c .event .number
-
-    either : Bool → Request
-    either b = elim b [ true ↦ Commit n | false ↦ Abort n ]
-
-    decide : eqb (c .event .kind) 1 ≡ false → (b : Bool) → ((m : ℕ) → either b ≡ Abort m → as′ ≡ []) → Got cs₀ l (logged (either b) l) (largestAfter (either b) e) as′ (taken σ (either b) e cs)
-    decide a true y = accept-commit σ cs₀ (e .count) (e .largest) (e .waiting) cs l h (e .uncommitted) as′ c a i p
-    decide a false y =
-        subst (λ (x : List Answer). Got cs₀ l (logged (Abort n) l) (e .largest) x (taken σ (Abort n) e cs)) (sym (y n refl))
-        (accept-abort σ cs₀ (e .count) (e .largest) (e .waiting) cs l h (e .uncommitted) as′ c a i p)
-
-    asks : Bool → Request
-    asks b = elim b [ true ↦ Arrive n (c .event .fragment) | false ↦ either (eqb (c .event .kind) 2) ]
-
-    go : (b : Bool) → eqb (c .event .kind) 1 ≡ b → ((m : ℕ) → asks b ≡ Abort m → as′ ≡ []) → Got cs₀ l (logged (asks b) l) (largestAfter (asks b) e) as′ (taken σ (asks b) e cs)
-    go true a y = accept-arrive σ cs₀ (e .count) (e .largest) (e .waiting) cs l h (e .uncommitted) as′ c a i idle p
-    go false a y = decide a (eqb (c .event .kind) 2) y
+accept σ cs₀ e cs l as′ c i idle h p z =
+    request-cases (λ (q : Request). ((n : ℕ) → q ≡ Abort n → as′ ≡ []) → Got cs₀ l (logged q l) (largestAfter q e) as′ (taken σ q e cs)) (c .event)
+    (λ a _. accept-arrive σ cs₀ (e .count) (e .largest) (e .waiting) cs l h (e .uncommitted) as′ c a i idle p)
+    (λ a _. accept-commit σ cs₀ (e .count) (e .largest) (e .waiting) cs l h (e .uncommitted) as′ c a i p)
+    (λ a y. subst (λ (x : List Answer). Got cs₀ l (logged (Abort (c .event .number)) l) (e .largest) x (taken σ (Abort (c .event .number)) e cs)) (sym (y (c .event .number) refl))
+    (accept-abort σ cs₀ (e .count) (e .largest) (e .waiting) cs l h (e .uncommitted) as′ c a i p)) z
 
 pub record Next (cs₀ : Cells) (r : Run) (c : Call) (as′ : List Answer) : Type 0 where
   pub whole : Whole cs₀ (onward r c) (as′ ++ step (r .engine) c .answers)
@@ -347,7 +329,7 @@ dependent-right cs₀ calls k c j between b d a m z q ev ok =
     subst (λ (x : Log). Gives cs₀ (a .number) x (a .outcome)) (sym (ap (λ (k : ℕ). noticed k (request (d .event)) (R .log)) ok ∙ ap (λ (v : Request). noticed 0 v (R .log)) ev))
     (depend-commit cs₀ (R .engine .count) (R .engine .largest) (R .engine .uncommitted) (R .engine .waiting) (R .cells) (R .log) (step (r .engine) c .answers ++ f .0) (f .1 .inv) (f .1 .rises) a z
     (all-mem (Followed 0 (f .1 .inv .past) (f .1 .inv .base) (f .1 .inv .more) (R .engine .uncommitted)) (step (r .engine) c .answers ++ f .0) (f .1 .inv .followed) a (Memᴰ·append-left (f .0) m))
-    (subst (λ (n : ℕ). isFront n (R .engine) ≡ true) (x .1) (decides-front (d .scheme) cs₀ (R .engine .count) (R .engine .largest) (R .engine .waiting) (R .cells) (R .log) (f .1 .rises) (R .engine .uncommitted) d (x .0)
+    (subst (λ (n : ℕ). isFront n (R .engine) ≡ true) (x .1) (decides-front (R .engine) d (x .0)
     (passed (R .engine) d (took (R .engine) d ok)))))
   where
     r : Run

@@ -18,7 +18,8 @@ use Rattle.model.specs.declared.Event.{Event}
 use Rattle.model.specs.declared.Fragment.{Fragment}
 use Rattle.model.specs.declared.Scheme.{Scheme}
 use Rattle.model.proofs.Chain.{All}
-use Rattle.model.proofs.Passing.{Passed, passed, front-or-new, front-if-known, and-if, and-unless}
+use Rattle.model.proofs.Branches.{request-cases}
+use Rattle.model.proofs.Passing.{Passed, passed, front-or-new, and-if, decides-front}
 use Rattle.model.proofs.Tests.{both, and-right, or-left}
 use Rattle.model.proofs.Sound.{SoundEngine, Sound, sound-parts, parts-sound}
 use Rattle.model.proofs.Keeping.{Stays, joined-stays, continued-stays, committed-stays, aborted-stays, rises-weaken}
@@ -88,34 +89,19 @@ module _ (σ : Scheme) (ct top : ℕ) (ws : List Waiting) (cs : Cells) where
               rises-top m [] h = h
               rises-top m (x ∷ l) h = let y : x ≤ top = rises-top x l (h .1) in omega (arith, h .0)
 
-  decides-front : (us : List Uncommitted) (c : Call) → eqb (c .event .kind) 1 ≡ false → Passed (engineOf us) c → isFront (c .event .number) (engineOf us) ≡ true
-  decides-front us c a p =
-      front-if-known (live (c .event .number) (engineOf us)) (new (c .event .number) (engineOf us)) (isFront (c .event .number) (engineOf us)) (p .six) (p .seven) (and-unless (eqb (c .event .kind) 1) _ a (p .twelve))
-
   commit-stays : (us : List Uncommitted) (c : Call) → eqb (c .event .kind) 1 ≡ false → Sound ct top us ws → Passed (engineOf us) c → Stays ct top (taken σ (Commit (c .event .number)) (engineOf us) cs)
-  commit-stays [] c a s p = absurd (true≢false (sym (decides-front [] c a p)))
+  commit-stays [] c a s p = absurd (true≢false (sym (decides-front (engineOf []) c a p)))
   commit-stays (u ∷ us) c a s p = committed-stays ct top ws cs σ u us s
 
   abort-stays : (us : List Uncommitted) (c : Call) → eqb (c .event .kind) 1 ≡ false → Sound ct top us ws → Passed (engineOf us) c → Stays ct top (taken σ (Abort (c .event .number)) (engineOf us) cs)
-  abort-stays [] c a s p = absurd (true≢false (sym (decides-front [] c a p)))
+  abort-stays [] c a s p = absurd (true≢false (sym (decides-front (engineOf []) c a p)))
   abort-stays (u ∷ us) c a s p = aborted-stays ct top ws cs σ u us s
 
 accepted-stays : (e : Engine) (c : Call) → SoundEngine e → Passed e c → Stays (e .count) (largestAfter (request (c .event)) e) (taken (c .scheme) (request (c .event)) e (c .lent))
-accepted-stays e c s p = go (eqb (c .event .kind) 1) refl
-  where
-    either : Bool → Request
-    either b = elim b [ true ↦ Commit (c .event .number) | false ↦ Abort (c .event .number) ]
-
-    decide : eqb (c .event .kind) 1 ≡ false → (b : Bool) → Stays (e .count) (largestAfter (either b) e) (taken (c .scheme) (either b) e (c .lent))
-    decide a true = commit-stays (c .scheme) (e .count) (e .largest) (e .waiting) (c .lent) (e .uncommitted) c a s p
-    decide a false = abort-stays (c .scheme) (e .count) (e .largest) (e .waiting) (c .lent) (e .uncommitted) c a s p
-
-    asks : Bool → Request
-    asks b = elim b [ true ↦ Arrive (c .event .number) (c .event .fragment) | false ↦ either (eqb (c .event .kind) 2) ]
-
-    go : (b : Bool) → eqb (c .event .kind) 1 ≡ b → Stays (e .count) (largestAfter (asks b) e) (taken (c .scheme) (asks b) e (c .lent))
-    go true a = arrive-stays (c .scheme) (e .count) (e .largest) (e .waiting) (c .lent) (e .uncommitted) c a s p
-    go false a = decide a (eqb (c .event .kind) 2)
+accepted-stays e c s p = request-cases (λ (q : Request). Stays (e .count) (largestAfter q e) (taken (c .scheme) q e (c .lent))) (c .event)
+    (λ a. arrive-stays (c .scheme) (e .count) (e .largest) (e .waiting) (c .lent) (e .uncommitted) c a s p)
+    (λ a. commit-stays (c .scheme) (e .count) (e .largest) (e .waiting) (c .lent) (e .uncommitted) c a s p)
+    (λ a. abort-stays (c .scheme) (e .count) (e .largest) (e .waiting) (c .lent) (e .uncommitted) c a s p)
 
 -- Kept by every call, from every sound record
 pub record StepKeeps (e : Engine) (c : Call) : Type 0 where

@@ -87,3 +87,8 @@ and-if false b e h = absurd (true≢false (sym e))
 pub and-unless : (a b : Bool) → a ≡ false → (not a && b) ≡ false → b ≡ false
 and-unless true b e h = absurd (true≢false e)
 and-unless false b e h = h
+
+-- a decision that was accepted is for the front
+pub decides-front : (e : Engine) (c : Call) → eqb (c .event .kind) 1 ≡ false → Passed e c → isFront (c .event .number) e ≡ true
+decides-front e c a p =
+    front-if-known (live (c .event .number) e) (new (c .event .number) e) (isFront (c .event .number) e) (p .six) (p .seven) (and-unless (eqb (c .event .kind) 1) _ a (p .twelve))

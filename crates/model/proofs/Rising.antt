@@ -13,7 +13,7 @@ use Rattle.model.specs.Refusals.{Request, Arrive, Commit, Abort, request
 use Rattle.model.specs.Demand.{Rises}
 use Rattle.model.specs.declared.Fragment.{Fragment}
 use Rattle.model.specs.declared.Scheme.{Scheme}
-use Rattle.model.proofs.Branches.{placed-idle, placed-behind, settled-cases, drain-cases, held-cases}
+use Rattle.model.proofs.Branches.{placed-idle, placed-behind, settled-cases, drain-cases, held-cases, request-cases}
 use Rattle.model.proofs.Passing.{Passed, passed, front-or-new}
 use Rattle.model.proofs.Sound.{Sound, SoundEngine, sound-parts}
 use Rattle.model.proofs.Keeping.{rises-weaken, numbers-requeued, numbers-more, rises-more}
@@ -79,22 +79,12 @@ pub step-rising : (e : Engine) (c : Call) → Rising 0 (step e c .answers)
 unfolding step
 step-rising e c = go (refusal e c) refl
   where
-    rises : Passed e c → Rises 0 (e .largest) (numbers (e .uncommitted) (e .waiting))
-    rises p = sound-parts e (not-false (sound e) (p .one)) .rises
-
-    asked : (q : Request) → ((n : ℕ) (f : Fragment) → q ≡ Arrive n f → n ≡ c .event .number) → Passed e c → Rising 0 (taken (c .scheme) q e (c .lent) .answers)
-    asked (Arrive n f) is p = arrived-rising (c .scheme) (e .largest) (c .lent) (e .waiting) n f (e .uncommitted) (rises p)
-        (λ z. ltb-true (e .largest) n (subst (λ (m : ℕ). new m e ≡ true) (sym (is n f refl))
-        (front-or-new (live (c .event .number) e) (new (c .event .number) e) (isFront (c .event .number) e) (p .six) (p .seven) (subst (λ (m : ℕ). isFront m e ≡ false) (is n f refl) z))))
-    asked (Commit n) is p = committed-rising (c .scheme) (e .largest) (c .lent) (e .waiting) (e .uncommitted) (rises p)
-    asked (Abort n) is p = aborted-rising (c .scheme) (e .largest) (c .lent) (e .waiting) (e .uncommitted) (rises p)
-
-    names : (a b : Bool) (n : ℕ) (f : Fragment)
-        → elim a as (λ _. Request) [ true ↦ Arrive (c .event .number) (c .event .fragment) | false ↦ elim b [ true ↦ Commit (c .event .number) | false ↦ Abort (c .event .number) ] ] ≡ Arrive n f → n ≡ c .event .number
-    names true b n f x = cc
-    names false true n f x = let y : _≡_ {A = ℕ} 0 1 = cc in absurd (omega arith)
-    names false false n f x = let y : _≡_ {A = ℕ} 0 1 = cc in absurd (omega arith)
+    asked : Passed e c → Rises 0 (e .largest) (numbers (e .uncommitted) (e .waiting)) → Rising 0 (taken (c .scheme) (request (c .event)) e (c .lent) .answers)
+    asked p h = request-cases (λ (q : Request). Rising 0 (taken (c .scheme) q e (c .lent) .answers)) (c .event)
+        (λ _. arrived-rising (c .scheme) (e .largest) (c .lent) (e .waiting) (c .event .number) (c .event .fragment) (e .uncommitted) h
+        (λ z. ltb-true (e .largest) (c .event .number) (front-or-new (live (c .event .number) e) (new (c .event .number) e) (isFront (c .event .number) e) (p .six) (p .seven) z)))
+        (λ _. committed-rising (c .scheme) (e .largest) (c .lent) (e .waiting) (e .uncommitted) h) (λ _. aborted-rising (c .scheme) (e .largest) (c .lent) (e .waiting) (e .uncommitted) h)
 
     go : (k : ℕ) → refusal e c ≡ k → Rising 0 (respond k e c .answers)
-    go zero q = asked (request (c .event)) (λ n f x. names (eqb (c .event .kind) 1) (eqb (c .event .kind) 2) n f x) (passed e c q)
+    go zero q = let p = passed e c q in asked p (sound-parts e (not-false (sound e) (p .one)) .rises)
     go (suc k) q = tt
