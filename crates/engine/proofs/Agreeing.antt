@@ -7,19 +7,20 @@ use lib.ListN.{length, getD}
 use Rattle.model.specs.Operations.{Cells}
 use Rattle.model.specs.Transactions.{Uncommitted, Waiting, Answer, Rising, numbers}
 use Rattle.model.specs.Refusals.{Call, step}
-use Rattle.model.specs.Demand.{Run, onward, runs, fresh, Lends, settledOf}
+use Rattle.model.specs.Demand.{Run, onward, runs, fresh, Lends, settledOf, settledIn}
 use Rattle.model.specs.Schemes.{Alike, Twins, Idle, ofSingles}
 use Rattle.model.specs.declared.Scheme.the-variants.{Blocking}
 use Rattle.model.proofs.Chain.{all-mem}
 use Rattle.model.proofs.Agreeing.{schemes-agree}
+use Rattle.model.proofs.Leaving.{settled-in}
 use Rattle.model.proofs.Blocking.{Independent, blocking-independent}
 use Rattle.model.proofs.Rising.{step-rising}
 use Rattle.record.specs.declared.Record.{Record}
 use Rattle.record.specs.View.{view}
 use Rattle.engine.specs.Called.{stepped, called}
-use Rattle.engine.specs.Carried.{Words, returned, roomOf, answerAt, answerOf, RecordRun, onwardR, runsR, freshR, LendsR}
+use Rattle.engine.specs.Carried.{Words, AllWords, returned, roomOf, answerAt, answerOf, RecordRun, onwardR, runsR, freshR, LendsR, AllLendR, settledInR}
 use Rattle.engine.specs.Agreed.{TwinsR, IdleR, answersFrom, answersOf, RecordSchemesAgree}
-use Rattle.engine.proofs.Carrying.{meant, noAnswer, answer-is, answer-sent, reached, lent}
+use Rattle.engine.proofs.Carrying.{meant, noAnswer, answer-is, answer-sent, reached, lent, from}
 use Rattle.engine.proofs.Viewed.{view-count, view-waits}
 
 -- the answers read from the room are the model's
@@ -72,9 +73,14 @@ pub agreed : (cs : Cells) → RecordSchemesAgree cs
 agreed cs = record {
   numbers = agreed-numbers cs;
   settling = λ calls calls′ t. over cs calls calls′ t (λ (x y : Run). settledOf (x .log) ≡ settledOf (y .log)) (schemes-agree cs .settling calls calls′ (twins cs calls calls′ t));
+  recorded = λ calls calls′ t. over cs calls calls′ t (λ (x y : Run). settledIn x ≡ settledIn y) (schemes-agree cs .recorded calls calls′ (twins cs calls calls′ t));
   cells = agreed-cells cs;
   singles = agreed-singles cs;
 }
+
+-- What is settled by the log is settled by the record
+pub settled-in-record : (cs : Cells) (calls : List Call) → AllWords calls → AllLendR (freshR cs) calls → settledInR (runsR (freshR cs) calls) ≡ settledOf (runsR (freshR cs) calls .log)
+settled-in-record cs calls w l = from cs calls w l (λ (r : Run). settledIn r ≡ settledOf (r .log)) (settled-in cs calls (lent cs calls w l))
 
 -- By blocking no answer in the room depends on anything, from any record
 pub blocking-plain : (r : Record) (c : Call) → c .scheme ≡ Blocking → Words (c .event) → (i : ℕ) → i < returned r c .answers → answerOf r c i .dependence ≡ 0

@@ -171,9 +171,12 @@ start-rows n = go (eqb n 0 || ltb mostCells n)
     go true = tt
     go false = tt
 
-pub fresh-same : (cs : Cells) → meant (freshR cs) ≡ fresh cs
+pub fresh-view : (n : ℕ) → view (freshOf n .next) ≡ start n .engine
 unfolding freshOf
-fresh-same cs = λ i. record { engine = view-pack (start (length cs) .engine) (start-sound (length cs)) (start-rows (length cs)) i; cells = cs; log = [] }
+fresh-view n = view-pack (start n .engine) (start-sound n) (start-rows n)
+
+pub fresh-same : (cs : Cells) → meant (freshR cs) ≡ fresh cs
+fresh-same cs = λ i. record { engine = fresh-view (length cs) i; cells = cs; log = [] }
 
 -- The theorem
 
@@ -187,7 +190,7 @@ module _ (cs : Cells) where
 
   -- what the model has of a run
   module _ (calls : List Call) (w : AllWords calls) (l : AllLendR (freshR cs) calls) where
-    from : (P : Run → Type 0) → P (runs (fresh cs) calls) → P (meant (runsR (freshR cs) calls))
+    pub from : (P : Run → Type 0) → P (runs (fresh cs) calls) → P (meant (runsR (freshR cs) calls))
     from P p = subst P (sym (reached calls w)) p
 
     abbrev here : RecordRun
@@ -203,10 +206,15 @@ module _ (cs : Cells) where
     carried-settling c k =
         let x : SettlingOrder (meant here) c = from (λ (r : Run). Lends r c → SettlingOrder r c) (demand3 cs .settling calls (lent calls w l) c) k in
         record {
-          rises = subst (λ (n : ℕ). Rises 0 n (numbersOf (settledOf (here .log) ++ liveOf (here .log)))) (view-largest (here .kept)) (x .rises);
+          accepted = to (numbersOf (here .log)) (x .accepted);
+          rises = to (numbersOf (settledOf (here .log) ++ liveOf (here .log))) (x .rises);
           more = x .more;
           grows = x .grows;
         }
+      where
+        -- to the largest of the record itself
+        to : (ns : List ℕ) → Rises 0 (view (here .kept) .largest) ns → Rises 0 (here .kept .largest) ns
+        to ns h = subst (λ (n : ℕ). Rises 0 n ns) (view-largest (here .kept)) h
 
     carried-plain : (c : Call) → Words (c .event) → LendsR here c → PlainRightR cs here c
     unfolding called stepped

@@ -3,6 +3,7 @@ pub mod Fine
 pub mod Viewed
 pub mod Carrying
 pub mod Agreeing
+pub mod Starting
 pub mod Reading
 pub mod Rooms
 pub mod Placing

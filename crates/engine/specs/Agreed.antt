@@ -9,7 +9,7 @@ use Rattle.model.specs.Refusals.{Call}
 use Rattle.model.specs.Demand.{settledOf}
 use Rattle.model.specs.Schemes.{Alike, AllAlike, ofSingles}
 use Rattle.record.specs.declared.Record.{Record}
-use Rattle.engine.specs.Carried.{Words, AllWords, returned, roomOf, answerAt, RecordRun, onwardR, runsR, freshR, LendsR, AllLendR}
+use Rattle.engine.specs.Carried.{Words, AllWords, returned, roomOf, answerAt, RecordRun, onwardR, runsR, freshR, LendsR, AllLendR, settledInR}
 
 pub record TwinsR (cs : Cells) (calls calls′ : List Call) : Type 0 where
   pub alike : AllAlike calls calls′
@@ -37,6 +37,8 @@ pub record RecordSchemesAgree (cs : Cells) : Type 0 where
       → returned (runsR (freshR cs) calls .kept) c .number ≡ returned (runsR (freshR cs) calls′ .kept) c′ .number
   -- "settle the same transactions in the same order"
   pub settling : (calls calls′ : List Call) → TwinsR cs calls calls′ → settledOf (runsR (freshR cs) calls .log) ≡ settledOf (runsR (freshR cs) calls′ .log)
+  -- the same by the records: the accepted ones that are in no queue any longer and were not aborted
+  pub recorded : (calls calls′ : List Call) → TwinsR cs calls calls′ → settledInR (runsR (freshR cs) calls) ≡ settledInR (runsR (freshR cs) calls′)
   -- "and hold equal cells whenever nothing is live"
   pub cells : (calls calls′ : List Call) → TwinsR cs calls calls′ → IdleR (runsR (freshR cs) calls) → runsR (freshR cs) calls .cells ≡ runsR (freshR cs) calls′ .cells
   -- "Singles get the same answers": in the same call, in the same order

@@ -1,14 +1,15 @@
 -- Demand 3 of runs on records, words and rooms: each call is given the record that the last one returned, and what it returns is what the
 -- contract of `call` says, `called`, `cellsAfter` and `roomAfter`. The log is the model's: it is read off the events and the returned numbers.
-use Prim.Native.Nat.{ℕ, _+_, _*_, _<_}
+use Prim.Native.Nat.{ℕ, _+_, _*_, _≤_, _<_}
 use mathlib.Core.Path.{_≡_}
 use mathlib.Core.List.{List, [], _∷_, _++_}
 use lib.ListN.{length, take, getD}
+use Rattle.model.specs.Limits.{leastRoom}
 use Rattle.model.specs.Operations.{Cells}
 use Rattle.model.specs.Transactions.{Answer, answer, numbers}
 use Rattle.model.specs.Refusals.{Abort, Commit, request, Call}
 use Rattle.model.specs.Serial.{Tx, serial}
-use Rattle.model.specs.Demand.{Log, noticed, settledOf, liveOf, numbersOf, Rises, Gives}
+use Rattle.model.specs.Demand.{Log, noticed, settledOf, liveOf, settledBy, numbersOf, Rises, Gives}
 use Rattle.model.specs.Demand as Demand
 use Rattle.model.specs.declared.Event.{Event}
 use Rattle.record.specs.declared.Record.{Record}
@@ -59,8 +60,12 @@ abbrev pub runsR : RecordRun → List Call → RecordRun
 runsR r [] = r
 runsR r (c ∷ calls) = runsR (onwardR r c) calls
 
+-- started with n cells, whether or not that was refused
+abbrev pub startedR : ℕ → Cells → RecordRun
+startedR n cs = record { kept = freshOf n .next; cells = cs; log = [] }
+
 abbrev pub freshR : Cells → RecordRun
-freshR cs = record { kept = freshOf (length cs) .next; cells = cs; log = [] }
+freshR cs = startedR (length cs) cs
 
 -- each accepted call is lent the same cells; a refused one may be lent any
 abbrev pub LendsR : RecordRun → Call → Type 0
@@ -80,7 +85,12 @@ CellsHoldR cs r = r .cells ≡ serial (uncommittedR r) (serial (settledOf (r .lo
 abbrev pub QueueOrderR : RecordRun → Type 0
 QueueOrderR r = numbers (view (r .kept) .uncommitted) (view (r .kept) .waiting) ≡ numbersOf (liveOf (r .log))
 
+-- settled, by the record's own queues
+abbrev pub settledInR : RecordRun → List Tx
+settledInR r = settledBy (numbers (view (r .kept) .uncommitted) (view (r .kept) .waiting)) (r .log)
+
 pub record SettlingOrderR (r : RecordRun) (c : Call) : Type 0 where
+  pub accepted : Rises 0 (r .kept .largest) (numbersOf (r .log))
   pub rises : Rises 0 (r .kept .largest) (numbersOf (settledOf (r .log) ++ liveOf (r .log)))
   pub more : List Tx
   pub grows : settledOf (onwardR r c .log) ≡ settledOf (r .log) ++ more
@@ -103,7 +113,7 @@ DependentRightR cs r c between d =
     → returned (runsR (onwardR r c) between .kept) d .number ≡ 0
     → Gives cs (answerOf (r .kept) c i .number) (onwardR (runsR (onwardR r c) between) d .log) (answerOf (r .kept) c i .outcome)
 
--- Demand 3, a field for each sentence: after any calls from a fresh start on cs; with "From a fresh start no call returns 1."
+-- Demand 3, a field for each sentence: after any calls from a fresh start on cs; and one more, that no call from a fresh start returns 1
 pub record RecordDemand3 (cs : Cells) : Type 0 where
   pub cells : (calls : List Call) → AllWords calls → AllLendR (freshR cs) calls → CellsHoldR cs (runsR (freshR cs) calls)
   pub queues : (calls : List Call) → AllWords calls → AllLendR (freshR cs) calls → QueueOrderR (runsR (freshR cs) calls)
@@ -115,3 +125,9 @@ pub record RecordDemand3 (cs : Cells) : Type 0 where
       → (between : List Call) → AllWords between → AllLendR (onwardR (runsR (freshR cs) calls) c) between → (d : Call)
       → DependentRightR cs (runsR (freshR cs) calls) c between d
   pub never : (calls : List Call) → AllWords calls → (c : Call) → returned (runsR (freshR cs) calls .kept) c .number ≡ 1 → ⊥
+
+-- "a record with 0 cells, which every later call with enough room refuses by 3": after a refused start with n cells and any calls, whatever they were lent
+pub record NotStarted (n : ℕ) : Type 0 where
+  pub none : freshOf n .next .count ≡ 0
+  pub stays : (cs : Cells) (calls : List Call) → runsR (startedR n cs) calls .kept ≡ freshOf n .next
+  pub refuses : (cs : Cells) (calls : List Call) (c : Call) → leastRoom ≤ length (c .room) → returned (runsR (startedR n cs) calls .kept) c .number ≡ 3

@@ -19,7 +19,8 @@ use Rattle.model.specs.declared.Event.{Event}
 use Rattle.model.specs.declared.Fragment.{Fragment}
 use Rattle.model.specs.declared.Scheme.{Scheme}
 use Rattle.model.proofs.Chain.{asTx, txOf, lives, latest, Inv, settled-is}
-use Rattle.model.proofs.Demanded.{Whole, whole-cells, whole-queue, whole-onward, fresh-whole, forget, reached, reaches}
+use Rattle.model.proofs.Demanded.{Whole, whole-cells, whole-queue, whole-onward, whole-next, fresh-whole, reaches}
+use Rattle.model.proofs.Leaving.{settled-in}
 use Rattle.model.proofs.Kept.{step-keeps, start-sound, step-number}
 
 -- Fronts
@@ -183,8 +184,8 @@ module _ (cs : Cells) (r r′ : Run) (p : Paired cs r r′) where
 
     paired-onward : Lends r c → Lends r′ c′ → Paired cs (onward r c) (onward r′ c′)
     paired-onward d d′ = record {
-      whole = forget cs (onward r c) (step (r .engine) c .answers) (whole-onward cs r c [] (p .whole) d (λ _ _ _. refl) .whole);
-      whole′ = forget cs (onward r′ c′) (step (r′ .engine) c′ .answers) (whole-onward cs r′ c′ [] (p .whole′) d′ (λ _ _ _. refl) .whole);
+      whole = whole-next cs r c (p .whole) d;
+      whole′ = whole-next cs r′ c′ (p .whole′) d′;
       log = log-same;
       kept = step-keeps (r .engine) c (p .kept) .sound;
       kept′ = step-keeps (r′ .engine) c′ (p .kept′) .sound;
@@ -218,6 +219,7 @@ schemes-agree cs = record {
   numbers = λ calls calls′ t c c′ a. numbers-same cs (runs (fresh cs) calls) (runs (fresh cs) calls′) (paired cs calls calls′ t) c c′ a;
   logs = λ calls calls′ t. paired cs calls calls′ t .log;
   settling = λ calls calls′ t. ap settledOf (paired cs calls calls′ t .log);
+  recorded = λ calls calls′ t. settled-in cs calls (t .lend) ∙ ap settledOf (paired cs calls calls′ t .log) ∙ sym (settled-in cs calls′ (t .lend′));
   cells = λ calls calls′ t h. idle-cells cs (runs (fresh cs) calls) (runs (fresh cs) calls′) (paired cs calls calls′ t) h;
   singles = λ calls calls′ t c c′ a d d′. singles-same cs (runs (fresh cs) calls) (runs (fresh cs) calls′) (paired cs calls calls′ t) c c′ a d d′;
   answered = λ calls d c k. reaches cs calls d c k .singles;

@@ -202,10 +202,12 @@ forget cs₀ r as′ w = record {
   idle = w .idle;
 }
 
+pub whole-next : (cs₀ : Cells) (r : Run) (c : Call) → Whole cs₀ r [] → Lends r c → Whole cs₀ (onward r c) []
+whole-next cs₀ r c w d = forget cs₀ (onward r c) (step (r .engine) c .answers) (whole-onward cs₀ r c [] w d (λ _ _ _. refl) .whole)
+
 pub whole-runs : (cs₀ : Cells) (r : Run) (calls : List Call) → AllLend r calls → Whole cs₀ r [] → Whole cs₀ (runs r calls) []
 whole-runs cs₀ r [] d w = w
-whole-runs cs₀ r (c ∷ calls) d w =
-    whole-runs cs₀ (onward r c) calls (d .1) (forget cs₀ (onward r c) (step (r .engine) c .answers) (whole-onward cs₀ r c [] w (d .0) (λ _ _ _. refl) .whole))
+whole-runs cs₀ r (c ∷ calls) d w = whole-runs cs₀ (onward r c) calls (d .1) (whole-next cs₀ r c w (d .0))
 
 -- answers followed through calls without an accepted abort
 followed-runs : (cs₀ : Cells) (r : Run) (calls : List Call) (as′ : List Answer) → AllLend r calls → Whole cs₀ r as′ → NoAbort r calls → (more : List Answer) × Whole cs₀ (runs r calls) (as′ ++ more)
@@ -349,6 +351,7 @@ demand3 cs = record {
   cells = λ calls d. whole-cells cs (runs (fresh cs) calls) [] (reached cs calls d);
   queues = λ calls d. whole-queue cs (runs (fresh cs) calls) [] (reached cs calls d);
   settling = λ calls d c k. record {
+    accepted = reached cs calls d .rises;
     rises = rises-settled 0 (runs (fresh cs) calls .engine .largest) (runs (fresh cs) calls .log) (reached cs calls d .rises);
     more = reaches cs calls d c k .grows .0;
     grows = reaches cs calls d c k .grows .1;

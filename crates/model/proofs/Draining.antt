@@ -180,7 +180,7 @@ module _ (cs₀ : Cells) (top : ℕ) (l : Log) (rises : InOrder 0 top l) where
 -- after a drain that began with the past P
 pub record After (cs₀ : Cells) (l P : Log) (as′ : List Answer) (q : Queues) : Type 0 where
   pub inv : Inv cs₀ l (q .cells) (q .uncommitted) (q .waiting) (as′ ++ q .answers)
-  -- "If something waits then something is uncommitted"
+  -- where something waits, something is uncommitted
   pub idle : q .uncommitted ≡ [] → q .waiting ≡ []
   pub plain : All (Plain cs₀ l) (q .answers)
   -- all that can settle has settled, and each single of it was answered

@@ -19,7 +19,7 @@ use Rattle.model.specs.declared.Fragment.{Fragment}
 use Rattle.model.specs.declared.Scheme.{Scheme}
 use Rattle.model.proofs.Chain.{All}
 use Rattle.model.proofs.Branches.{request-cases}
-use Rattle.model.proofs.Passing.{Passed, passed, front-or-new, and-if, decides-front}
+use Rattle.model.proofs.Passing.{Passed, passed, took, front-or-new, and-if, decides-front}
 use Rattle.model.proofs.Tests.{both, and-right, or-left}
 use Rattle.model.proofs.Sound.{SoundEngine, Sound, sound-parts, parts-sound}
 use Rattle.model.proofs.Keeping.{Stays, joined-stays, continued-stays, committed-stays, aborted-stays, rises-weaken}
@@ -166,9 +166,17 @@ never-one e c h z = above (behind-first (rows e c)) (omega arith)
         go true f j = let x : 1 < r .0 = p .0 in omega arith
         go false f j = f j
 
--- "From a fresh start no call returns 1."
+-- no call from a fresh start returns 1
 pub fresh-never-one : (cs : Cells) (calls : List Call) (c : Call) → step (runs (fresh cs) calls .engine) c .number ≡ 1 → ⊥
 fresh-never-one cs calls c z = never-one (runs (fresh cs) calls .engine) c (runs-sound cs calls) z
+
+-- no call is accepted on a record of 0 cells, whatever its room
+pub never-taken : (c : Call) → step (empty 0) c .number ≡ 0 → ⊥
+never-taken c z = go (eqb (length (c .lent)) 0) (passed (empty 0) c (took (empty 0) c z) .three)
+  where
+    go : (b : Bool) → (b || not b) ≡ false → ⊥
+    go true h = true≢false h
+    go false h = true≢false h
 
 -- "a record with 0 cells, which every later call with enough room refuses by 3"
 pub not-started : (c : Call) → leastRoom ≤ length (c .room) → step (empty 0) c .number ≡ 3

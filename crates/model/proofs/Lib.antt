@@ -13,6 +13,7 @@ pub mod Tests
 pub mod Sound
 pub mod Keeping
 pub mod Kept
+pub mod Leaving
 pub mod Agreeing
 pub mod Blocking
 pub mod Rising

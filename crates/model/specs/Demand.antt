@@ -1,14 +1,17 @@
--- Demand 3: "From a fresh start, after any sequence of calls, the cells are those of a serial run of the settled and then the uncommitted
--- transactions, and every answer carries what that serial run gives." First the log, a function of the calls and the returned numbers alone.
+-- Demand 3, which document 01 names: "Between any two calls the cells hold what one gets by running the settled transactions one at a time in number
+-- order, then the uncommitted ones in queue order, as far as their fragments have run. An aborted or failed transaction contributes nothing. An
+-- answer without a dependence carries the numbers, or the place of failure, that its fragment gives directly after everything settled before it and
+-- its own transaction's earlier fragments. An answer that depends on D carries what that same run gives if D commits and no abort was accepted
+-- between the answer and that commit." First the log, a function of the calls and the returned numbers alone.
 use Prim.Native.Nat.{ℕ, zero, suc, _≤_, _<_}
 use mathlib.Core.Path.{_≡_}
-use mathlib.Core.Bool.{Bool, true, false}
+use mathlib.Core.Bool.{Bool, true, false, _||_}
 use mathlib.Core.List.{List, [], _∷_, _++_, map, List·Memᴰ}
 use lib.Dec.{ltb, eqb}
 use lib.ListN.{length, take}
 use Rattle.model.specs.Operations.{Cells, Outcome, multi, told}
 use Rattle.model.specs.Transactions.{Engine, Answer, numbers}
-use Rattle.model.specs.Refusals.{Request, Arrive, Commit, Abort, request, Call, Stepped, step, start}
+use Rattle.model.specs.Refusals.{Request, Arrive, Commit, Abort, request, isIn, Call, Stepped, step, start}
 use Rattle.model.specs.Serial.{Tx, Decision, Open, Committed, Aborted, attempt, serial}
 use Rattle.model.specs.declared.Fragment.{Fragment}
 
@@ -62,7 +65,7 @@ abbrev pub runs : Run → List Call → Run
 runs r [] = r
 runs r (c ∷ calls) = runs (onward r c) calls
 
--- "a fresh engine, any starting cells"
+-- "demand 3 from a fresh one": a record that was just started, and any cells
 abbrev pub fresh : Cells → Run
 fresh cs = record { engine = start (length cs) .engine; cells = cs; log = [] }
 
@@ -97,8 +100,8 @@ liveOf (t ∷ ts) = elim (standing t) [ Settles ↦ liveOf ts | Gone ↦ liveOf 
 abbrev pub uncommittedOf : Run → List Tx
 uncommittedOf r = take (length (r .engine .uncommitted)) (liveOf (r .log))
 
--- "the cells between any two calls are those of a serial run of the settled transactions in number order and then the uncommitted ones in
--- queue order as far as their fragments have run; an aborted or failed one contributes nothing"
+-- "Between any two calls the cells hold what one gets by running the settled transactions one at a time in number order, then the uncommitted ones in
+-- queue order, as far as their fragments have run. An aborted or failed transaction contributes nothing."
 abbrev pub CellsHold : Cells → Run → Type 0
 CellsHold cs r = r .cells ≡ serial (uncommittedOf r) (serial (settledOf (r .log)) cs)
 
@@ -109,14 +112,28 @@ numbersOf ts = map (λ (t : Tx). t .number) ts
 abbrev pub QueueOrder : Run → Type 0
 QueueOrder r = numbers (r .engine .uncommitted) (r .engine .waiting) ≡ numbersOf (liveOf (r .log))
 
+-- Settled, by a record: "Live means accepted and not yet settled or aborted". So these are the accepted ones that are not among its live numbers and
+-- were not aborted, in the order of the log.
+abbrev pub wasAborted : Tx → Bool
+wasAborted t = elim (t .decision) [ Open ↦ false | Committed ↦ false | Aborted ↦ true ]
+
+abbrev pub settledBy : List ℕ → Log → List Tx
+settledBy live [] = []
+settledBy live (t ∷ ts) = elim (isIn (t .number) live || wasAborted t) [ true ↦ settledBy live ts | false ↦ t ∷ settledBy live ts ]
+
+-- live by the record's own queues
+abbrev pub settledIn : Run → List Tx
+settledIn r = settledBy (numbers (r .engine .uncommitted) (r .engine .waiting)) (r .log)
+
 -- numbers rise from above n to at most top
 abbrev pub Rises : ℕ → ℕ → List ℕ → Type 0
 Rises n top [] = n ≤ top
 Rises n top (m ∷ ms) = (n < m) × Rises m top ms
 
--- "settling order is number order": the settled ones and then the live ones rise to the largest accepted, and what settles in a call
--- settles behind all that was settled before it
+-- "in number order": "the front door gives them in rising order, so a new transaction's number is larger than every accepted one before". All accepted
+-- ones rise to the largest, without the aborted ones too; and what settles in a call settles behind all that was settled before it.
 pub record SettlingOrder (r : Run) (c : Call) : Type 0 where
+  pub accepted : Rises 0 (r .engine .largest) (numbersOf (r .log))
   pub rises : Rises 0 (r .engine .largest) (numbersOf (settledOf (r .log) ++ liveOf (r .log)))
   pub more : List Tx
   pub grows : settledOf (onward r c .log) ≡ settledOf (r .log) ++ more
@@ -134,12 +151,12 @@ abbrev pub the : ℕ → Log → Found
 the n [] = None
 the n (t ∷ ts) = elim (eqb (t .number) n) [ true ↦ This t | false ↦ the n ts ]
 
--- o is "the numbers, or the place, that its fragment gives directly after everything settled before it and its own transaction's earlier
+-- o is "the numbers, or the place of failure, that its fragment gives directly after everything settled before it and its own transaction's earlier
 -- fragments"
 abbrev pub Gives : Cells → ℕ → Log → Outcome → Type 0
 Gives cs n l o = (t : Tx) × (the n l ≡ This t) × (o ≡ told (attempt t (serial (settledOf (before n l)) cs)))
 
--- "an answer without a dependence carries" that: an answer of the call c, made at r
+-- "An answer without a dependence carries" that: an answer of the call c, made at r
 abbrev pub PlainRight : Cells → Run → Call → Type 0
 PlainRight cs r c = (a : Answer) → List·Memᴰ a (step (r .engine) c .answers) → a .dependence ≡ 0 → Gives cs (a .number) (onward r c .log) (a .outcome)
 
@@ -148,7 +165,7 @@ abbrev pub NoAbort : Run → List Call → Type 0
 NoAbort r [] = Unit {0}
 NoAbort r (c ∷ calls) = (step (r .engine) c .number ≡ 0 → (n : ℕ) → request (c .event) ≡ Abort n → ⊥) × NoAbort (onward r c) calls
 
--- "an answer that depends on D carries what that same run gives if D commits and no abort was accepted between the answer and that commit":
+-- "An answer that depends on D carries what that same run gives if D commits and no abort was accepted between the answer and that commit."
 -- c sends the answer, `between` are the calls after it, d commits D
 abbrev pub DependentRight : Cells → Run → Call → List Call → Call → Type 0
 DependentRight cs r c between d =

@@ -1,5 +1,5 @@
 -- Document 01, "Depot cases": P1 to P9, one table. Each case: the starting cells, the events, for each of them the returned number with
--- the answers, and the cells at the end. "Cells 5 and 10 unless said." Then those of them that show the blocking scheme (02, L5).
+-- the answers, and the cells at the end. "Cells 5 and 10 unless said". Then those of them that show the blocking scheme (02, L5).
 use Prim.Native.Nat.{ℕ, _-_}
 use mathlib.Core.List.{List, [], _∷_, _++_}
 use lib.ListN.{length, replicate}

@@ -10,7 +10,7 @@ use Rattle.model.specs.Operations.{Cells, multi, told}
 use Rattle.model.specs.Transactions.{Answer, answer, numbers}
 use Rattle.model.specs.Refusals.{Call, step}
 use Rattle.model.specs.Serial.{Tx, attempt, effect}
-use Rattle.model.specs.Demand.{Log, Run, onward, runs, fresh, Lends, AllLend, settledOf, Found, This, None, the}
+use Rattle.model.specs.Demand.{Log, Run, onward, runs, fresh, Lends, AllLend, settledOf, settledIn, Found, This, None, the}
 
 -- two calls that ask the same: they may differ in their scheme, in what the lent cells hold and in what the lent room holds
 pub record Alike (c d : Call) : Type 0 where
@@ -61,6 +61,8 @@ pub record SchemesAgree (cs : Cells) : Type 0 where
   -- "settle the same transactions in the same order": the logs are the same, and with them what is settled
   pub logs : (calls calls′ : List Call) → Twins cs calls calls′ → runs (fresh cs) calls .log ≡ runs (fresh cs) calls′ .log
   pub settling : (calls calls′ : List Call) → Twins cs calls calls′ → settledOf (runs (fresh cs) calls .log) ≡ settledOf (runs (fresh cs) calls′ .log)
+  -- the same by the records: the accepted ones that are in no queue any longer and were not aborted
+  pub recorded : (calls calls′ : List Call) → Twins cs calls calls′ → settledIn (runs (fresh cs) calls) ≡ settledIn (runs (fresh cs) calls′)
   -- "and hold equal cells whenever nothing is live"
   pub cells : (calls calls′ : List Call) → Twins cs calls calls′ → Idle (runs (fresh cs) calls) → runs (fresh cs) calls .cells ≡ runs (fresh cs) calls′ .cells
   -- "Singles get the same answers": in the same call, in the same order

@@ -54,8 +54,8 @@ pub record Waiting : Type 0 where
   pub number : ℕ
   pub fragment : Fragment
 
--- "The engine's record goes into each call and comes back from it: cell count, largest number accepted, uncommitted queue, waiting queue,
--- undo list"
+-- "The engine's record goes into each call and comes back from it: cell count, largest number accepted, uncommitted queue (at most 16), waiting
+-- queue, undo list"
 pub record Engine : Type 0 where
   pub count : ℕ
   pub largest : ℕ

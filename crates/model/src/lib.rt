@@ -38,7 +38,7 @@ pub struct Fragment {
     pub row: [Op; 8],
 }
 
-// "kind (1 fragment, 2 commit, 3 abort), number, flags, coordinator, operation count, eight times code, cell, amount": any words at all.
+// "kind (1 fragment, 2 commit, 3 abort), number, flags (1 multi + 2 last), coordinator, operation count, eight times code, cell, amount": any words at all.
 pub struct Event {
     pub kind: u32,
     pub number: u32,

@@ -131,7 +131,7 @@ module _ (letter : ℕ) (row : List ℕ) (base n at : ℕ) where
   unfolding lineFrom
   length-line = omega (arith, length-append (fieldsFrom row base n) (10 ∷ []), length-fields row base n)
 
--- "A buffer of 160 bytes will serve any line"
+-- every line fits 160 bytes
 pub length-e : (position number : ℕ) → length (lineE position number) ≤ 24
 unfolding lineE
 length-e position number = length-line 101 (position ∷ number ∷ []) 0 2 0
