@@ -16,7 +16,7 @@ struct Change {
 }
 
 // Unsound records, by the clauses of refusal 1.
-const UNSOUND: [Change; 30] = [
+const UNSOUND: [Change; 39] = [
     // a cell count above 4,096
     Change {
         place: 0,
@@ -227,10 +227,73 @@ const UNSOUND: [Change; 30] = [
         place_too: 2420,
         word_too: 0,
     },
+    // 65 entries of eight fragments
+    Change {
+        place: 1796,
+        word: 8,
+        place_too: 1799,
+        word_too: 65,
+    },
+    // a largest below a live number
+    Change {
+        place: 1,
+        word: 11,
+        place_too: 2420,
+        word_too: 0,
+    },
+    // a stored fragment that 4 refuses, by an unknown flag alone
+    Change {
+        place: 117,
+        word: 6,
+        place_too: 2420,
+        word_too: 0,
+    },
+    // by a single that is not last
+    Change {
+        place: 117,
+        word: 0,
+        place_too: 2420,
+        word_too: 0,
+    },
+    // by code 0
+    Change {
+        place: 120,
+        word: 0,
+        place_too: 2420,
+        word_too: 0,
+    },
+    // by a multi with coordinator 256
+    Change {
+        place: 62,
+        word: 256,
+        place_too: 2420,
+        word_too: 0,
+    },
+    // by a cell in an unused place
+    Change {
+        place: 130,
+        word: 1,
+        place_too: 2420,
+        word_too: 0,
+    },
+    // by an amount in an unused place
+    Change {
+        place: 131,
+        word: 1,
+        place_too: 2420,
+        word_too: 0,
+    },
+    // stored fragments that 5 refuses, by the count of cells
+    Change {
+        place: 0,
+        word: 3,
+        place_too: 2420,
+        word_too: 0,
+    },
 ];
 
 // Odd records that no run leaves and that are sound.
-const ODD: [Change; 14] = [
+const ODD: [Change; 24] = [
     // nothing odd
     Change {
         place: 2420,
@@ -328,6 +391,76 @@ const ODD: [Change; 14] = [
         word: 9,
         place_too: 1801,
         word_too: 9,
+    },
+    // 4,096 cells
+    Change {
+        place: 0,
+        word: 4096,
+        place_too: 2420,
+        word_too: 0,
+    },
+    // the least number
+    Change {
+        place: 4,
+        word: 1,
+        place_too: 2420,
+        word_too: 0,
+    },
+    // a number just above the one before
+    Change {
+        place: 32,
+        word: 4,
+        place_too: 2420,
+        word_too: 0,
+    },
+    // 16 entries of two fragments
+    Change {
+        place: 1799,
+        word: 16,
+        place_too: 2420,
+        word_too: 0,
+    },
+    // 64 entries of eight
+    Change {
+        place: 1796,
+        word: 8,
+        place_too: 1799,
+        word_too: 64,
+    },
+    // eight entries of one
+    Change {
+        place: 1847,
+        word: 8,
+        place_too: 2420,
+        word_too: 0,
+    },
+    // code 8 in one that waits
+    Change {
+        place: 120,
+        word: 8,
+        place_too: 2420,
+        word_too: 0,
+    },
+    // coordinator 255
+    Change {
+        place: 62,
+        word: 255,
+        place_too: 2420,
+        word_too: 0,
+    },
+    // the last cell in one that waits
+    Change {
+        place: 149,
+        word: 3,
+        place_too: 2420,
+        word_too: 0,
+    },
+    // both flags in one that waits
+    Change {
+        place: 117,
+        word: 3,
+        place_too: 118,
+        word_too: 1,
     },
 ];
 
@@ -491,7 +624,7 @@ fn refill(cells: &mut [u32]) {
 fn unsound(out: &mut [u8], from: u32, r: Record, cells: &mut [u32], room: &mut [u32]) -> u32 {
     let mut at = from;
     let mut i: usize = 0;
-    while i < 30 {
+    while i < 39 {
         let c = UNSOUND[i];
         at = try_call(
             out,
@@ -511,7 +644,7 @@ fn unsound(out: &mut [u8], from: u32, r: Record, cells: &mut [u32], room: &mut [
 fn odd(out: &mut [u8], from: u32, r: Record, cells: &mut [u32], room: &mut [u32]) -> u32 {
     let mut at = from;
     let mut i: usize = 0;
-    while i < 14 {
+    while i < 24 {
         let c = ODD[i];
         let two = case(r, c);
         refill(cells);
@@ -554,13 +687,34 @@ fn lent(out: &mut [u8], from: u32, r: Record) -> u32 {
     lend(out, g, 8, r, 4, 1024)
 }
 
-// Starting with none and with too many.
+// The line of a start with so many cells, and where it ends.
+fn start_with(out: &mut [u8], at: u32, position: u32, cells: u32) -> u32 {
+    let started = engine::start(cells);
+    let end = trace::put_e(out, at, position, started.number);
+    place(end)
+}
+
+// Starting with none and with too many, with the fewest and with the most.
 fn started(out: &mut [u8], from: u32) -> u32 {
-    let none = engine::start(0);
-    let end = trace::put_e(out, from, 9, none.number);
+    let a = start_with(out, from, 9, 0);
+    let b = start_with(out, a, 10, 4097);
+    let c = start_with(out, b, 11, 1);
+    start_with(out, c, 12, 4096)
+}
+
+// Refusal 2 with all else lent; then records that were only started, with no cell, the one that they have and one more, too few and too many.
+fn fresh(out: &mut [u8], from: u32, r: Record) -> u32 {
+    let one = engine::start(1);
+    let most = engine::start(4096);
     let many = engine::start(4097);
-    let last = trace::put_e(out, place(end), 10, many.number);
-    place(last)
+    let a = lend(out, from, 13, r, 4, 1023);
+    let b = lend(out, a, 14, r, 4, 0);
+    let c = lend(out, b, 15, one.next, 0, 1024);
+    let d = lend(out, c, 16, one.next, 1, 1024);
+    let e = lend(out, d, 17, one.next, 2, 1024);
+    let f = lend(out, e, 18, most.next, 5, 1024);
+    let g = lend(out, f, 19, many.next, 4, 1024);
+    lend(out, g, 20, many.next, 4, 1023)
 }
 
 fn main() {
@@ -572,7 +726,8 @@ fn main() {
     let b = odd(&mut out, a, r, &mut cells, &mut room);
     let c = lent(&mut out, b, r);
     let d = started(&mut out, c);
-    if d <= 4096 {
-        io::write_all(STDOUT_FILENO, &out[..d as usize]);
+    let e = fresh(&mut out, d, r);
+    if e <= 4096 {
+        io::write_all(STDOUT_FILENO, &out[..e as usize]);
     }
 }

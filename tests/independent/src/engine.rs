@@ -1,7 +1,8 @@
 //! The record and the steps of document 01, in place and on plain lists.
 
-use crate::event::{Event, Fragment, Operation, ADD, COMMIT, FRAGMENT, PLACES, TAKE};
+use crate::event::{Event, Fragment, Operation, ADD, COMMIT, FRAGMENT, LAST, MULTI, PLACES, READ, TAKE};
 use std::collections::VecDeque;
+use std::mem::swap;
 
 pub const MOST_CELLS: u32 = 4096;
 pub const MOST_LIVE: usize = 64;
@@ -67,6 +68,14 @@ impl Scheme {
     pub fn word(self) -> &'static str {
         match self {
             Scheme::Speculation => "speculation",
+            Scheme::Blocking => "blocking",
+        }
+    }
+
+    /// Of the file that has what an example prints.
+    pub fn ending(self) -> &'static str {
+        match self {
+            Scheme::Speculation => "expected",
             Scheme::Blocking => "blocking",
         }
     }
@@ -153,10 +162,16 @@ pub enum Fault {
     BlockingSpeculatesOnce,
     BlockingWhenIdle,
     BlockingRefusesNew,
+    Coordinator254,
+    ReadWithAmount,
+    FlagsUpTo7,
+    DependenceBeforeNumber,
+    /// No trace lends less than the room: the depot program's calls show it.
+    LeastRoom1023,
 }
 
 impl Fault {
-    pub const ALL: [Fault; 17] = [
+    pub const ALL: [Fault; 22] = [
         Fault::UndoOldestFirst,
         Fault::SpeculateBehindUnfinishedFront,
         Fault::RequeueReversed,
@@ -174,12 +189,17 @@ impl Fault {
         Fault::BlockingSpeculatesOnce,
         Fault::BlockingWhenIdle,
         Fault::BlockingRefusesNew,
+        Fault::Coordinator254,
+        Fault::ReadWithAmount,
+        Fault::FlagsUpTo7,
+        Fault::DependenceBeforeNumber,
+        Fault::LeastRoom1023,
     ];
 
     /// Whether runs by this scheme alone can show it. What needs a speculated one is no error by blocking.
     pub fn shows_by(self, scheme: Scheme) -> bool {
         match self {
-            Fault::None => false,
+            Fault::None | Fault::LeastRoom1023 => false,
             Fault::SpeculateBehindUnfinishedFront
             | Fault::RequeueReversed
             | Fault::SingleAnsweredEarly
@@ -196,7 +216,11 @@ impl Fault {
             | Fault::FailureKeepsWrites
             | Fault::CellsBeforeForm
             | Fault::CoordinatorBeforeFinished
-            | Fault::Live65 => true,
+            | Fault::Live65
+            | Fault::Coordinator254
+            | Fault::ReadWithAmount
+            | Fault::FlagsUpTo7
+            | Fault::DependenceBeforeNumber => true,
         }
     }
 
@@ -258,6 +282,9 @@ impl Engine {
             }
             self.drain(scheme, cells, &mut answers);
         }
+        if self.fault == Fault::DependenceBeforeNumber {
+            answers.iter_mut().for_each(|answer| swap(&mut answer.number, &mut answer.dependence));
+        }
         (refused, answers)
     }
 
@@ -278,13 +305,13 @@ impl Engine {
         // What a faulty engine leaves may be unsound; it shall go on and show its error.
         if self.fault == Fault::None && !record.sound() {
             1
-        } else if room < ROOM {
+        } else if room < self.least_room() {
             2
         } else if cells.is_empty() || cells.len() != record.cells as usize {
             3
         } else if self.fault == Fault::CellsBeforeForm && outside {
             5
-        } else if !event.well_formed() {
+        } else if !self.well_formed(event) {
             4
         } else if outside {
             5
@@ -301,6 +328,25 @@ impl Engine {
                 Some(State::Failed) if event.kind == COMMIT => 14,
                 Some(_) => 0,
             }
+        }
+    }
+
+    /// What refusal 4 lets pass. A wrong engine refuses more, or puts an event right before it asks.
+    fn well_formed(&self, event: &Event) -> bool {
+        let righted = |right: fn(&mut Fragment)| {
+            let mut event = *event;
+            right(&mut event.fragment);
+            event.well_formed()
+        };
+        match self.fault {
+            Fault::Coordinator254 => event.well_formed() && event.fragment.coordinator < 255,
+            Fault::ReadWithAmount => righted(|fragment| {
+                fragment.operations.iter_mut().filter(|o| o.code == READ).for_each(|o| o.amount = 0);
+            }),
+            Fault::FlagsUpTo7 if event.kind == FRAGMENT && event.fragment.flags <= 7 => {
+                righted(|fragment| fragment.flags &= MULTI | LAST)
+            }
+            _ => event.well_formed(),
         }
     }
 
@@ -430,6 +476,10 @@ impl Engine {
 
     fn depth(&self) -> usize {
         DEPTH + usize::from(self.fault == Fault::Depth17)
+    }
+
+    fn least_room(&self) -> usize {
+        ROOM - usize::from(self.fault == Fault::LeastRoom1023)
     }
 
     fn most_live(&self) -> usize {

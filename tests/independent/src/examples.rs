@@ -1,6 +1,6 @@
 //! Traces worth keeping as files: the depot cases that are not proved, the errors of the trade, and a depot story.
 
-use crate::engine::Fault;
+use crate::engine::{Fault, Scheme};
 use crate::event::{Event, ADD, MATCH, NEED, READ, SET, TAKE};
 use crate::trace;
 
@@ -16,6 +16,16 @@ impl Example {
     pub fn bytes(&self) -> Vec<u8> {
         trace::write(&self.cells, &self.events)
     }
+}
+
+/// Every file of the examples, by its name: the traces, and what this engine prints for them.
+pub fn files() -> Vec<(String, Vec<u8>)> {
+    let files = |Example { name, .. }: &Example, bytes: Vec<u8>| {
+        let printed = Scheme::ALL
+            .map(|scheme| (format!("{name}.{}", scheme.ending()), trace::replay(scheme, &bytes).into_bytes()));
+        printed.into_iter().chain([(format!("{name}.trace"), bytes)]).collect::<Vec<_>>()
+    };
+    all().iter().flat_map(|example| files(example, example.bytes())).collect()
 }
 
 pub fn all() -> Vec<Example> {

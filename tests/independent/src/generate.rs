@@ -325,7 +325,8 @@ impl Writer {
             }
             8 if fragment.is_multi() => fragment.coordinator = self.random.pick(&[0, 256, 257, TOP, any | 256]),
             8 => fragment.coordinator = self.random.pick(&[1, 255, TOP, any]),
-            9 => fragment.flags |= 1 << self.random.between(2, 31),
+            // The first unknown flag as often as all others.
+            9 => fragment.flags |= 1 << Some(self.random.below(60)).filter(|bit| (2..32).contains(bit)).unwrap_or(2),
             10 => (fragment.count, fragment.operations) = (0, Default::default()),
             11 => *event = Event::default(),
             _ => {

@@ -4,8 +4,10 @@
 //! * `event`: events, fragments, operations; what refusals 4 and 5 ask of them
 //! * `engine`: the record, the steps by either scheme, the refusals; `Fault` makes it commit a known error on purpose
 //! * `layout`: the record as words, and a call on words
-//! * `trace`: the trace program; `examples`: traces worth keeping; `generate`: seeded traces and what they reach
+//! * `trace`: the trace program; `examples`: traces worth keeping; `edges`: those that were worked by hand;
+//!   `generate`: seeded traces and what they reach
 
+pub mod edges;
 pub mod engine;
 pub mod event;
 pub mod examples;

@@ -1,10 +1,9 @@
 //! The depot cases, the examples, the order of the refusals, the trace program, and what the generator reaches.
 
 use independent::event::*;
-use independent::examples;
 use independent::generate::{self, Reach};
 use independent::trace::{self, replay, replay_with};
-use independent::{Engine, Fault, Operation, Scheme, State};
+use independent::{edges, examples, Engine, Fault, Operation, Scheme, State};
 
 fn prints(cells: &[u32], events: &[Event]) -> String {
     replay(Scheme::Speculation, &trace::write(cells, events))
@@ -270,9 +269,10 @@ fn generated_traces_reach_everything() {
     }
 }
 
-/// Each clause of 4 must be met alone: repairing that one thing makes the event well formed.
+/// Each clause of 4 must be met alone, in generated traces and on the page of edges: repairing that one thing makes the
+/// event well formed.
 #[test]
-fn generated_events_break_each_clause_of_4_alone() {
+fn each_clause_of_4_is_broken_alone() {
     type Repair = (&'static str, fn(&mut Event));
     let repairs: [Repair; 10] = [
         ("kind", |event| event.kind = if (FRAGMENT..=ABORT).contains(&event.kind) { event.kind } else { FRAGMENT }),
@@ -302,6 +302,7 @@ fn generated_events_break_each_clause_of_4_alone() {
     ];
     let traces = (1..=200).filter_map(|seed| trace::read(&generate::trace(seed)));
     let events: Vec<Event> = traces.flat_map(|trace| trace.events).filter(|event| !event.well_formed()).collect();
+    let edges: Vec<Event> = edges::all().into_iter().flat_map(|edges| edges.events).collect();
     for (name, repair) in repairs {
         let alone = |event: &&Event| {
             let mut event = **event;
@@ -309,6 +310,7 @@ fn generated_events_break_each_clause_of_4_alone() {
             event.well_formed()
         };
         assert!(events.iter().filter(alone).count() >= 5, "{name}");
+        assert!(edges.iter().filter(|event| !event.well_formed()).any(|event| alone(&event)), "{name} on the page");
     }
 }
 

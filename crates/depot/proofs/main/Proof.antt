@@ -8,6 +8,7 @@ use Rattle.depot.proofs.main.Tie as tie
 use Rattle.depot.proofs.main.Reads as reads
 use Rattle.depot.proofs.main.Lts as lts
 use Rattle.depot.proofs.base.Reads as base-reads
+use Rattle.depot.proofs.fresh.Reads as fresh-reads
 use Rattle.depot.proofs.lent.Reads as lent-reads
 use Rattle.depot.proofs.odd.Reads as odd-reads
 use Rattle.depot.proofs.started.Reads as started-reads
@@ -74,6 +75,14 @@ slice-aggregate-started c = search needs
 started-requires : tie.Need-started-requires
 started-requires c κs = search needs
 
+-- src/main.rt:410:19
+slice-aggregate-fresh : tie.Need-slice-aggregate-fresh
+slice-aggregate-fresh c = search needs
+
+-- src/main.rt:410:9
+fresh-requires : tie.Need-fresh-requires
+fresh-requires c κs = search needs
+
 -- src/main.rt:411:45
 cast-out : tie.Need-cast-out
 cast-out c = search needs
@@ -84,8 +93,8 @@ array-share-prefix-out c = search needs
 
 -- src/main.rt:411:38
 slice-aggregate-write-all : tie.Need-slice-aggregate-write-all
-slice-aggregate-write-all c = let e : length (c .before .before .before .started .last .0) ≡ 4096 = c .before .before .before .started .kept .0 ∙ c .before .before .before .before .before .before .lent .kept .0 ∙ c .before .before .before .before .before .before .before .before .before .before .before .odd .kept .0 ∙ c .before .before .before .before .before .before .before .before .before .before .before .before .before .before .before .before .before .before .unsound .kept .0 in
-    sym (length-take-le (c .before .before .before .started .result) (c .before .before .before .started .last .0) (omega (arith, e, c .before .if1 .taken)))
+slice-aggregate-write-all c = let e : length (c .before .before .before .fresh .last .0) ≡ 4096 = c .before .before .before .fresh .kept .0 ∙ c .before .before .before .before .before .before .started .kept .0 ∙ c .before .before .before .before .before .before .before .before .before .lent .kept .0 ∙ c .before .before .before .before .before .before .before .before .before .before .before .before .before .before .odd .kept .0 ∙ c .before .before .before .before .before .before .before .before .before .before .before .before .before .before .before .before .before .before .before .before .before .unsound .kept .0 in
+    sym (length-take-le (c .before .before .before .fresh .result) (c .before .before .before .fresh .last .0) (omega (arith, e, c .before .if1 .taken)))
 
 -- src/main.rt:411:9
 write-all-requires : tie.Need-write-all-requires
@@ -118,6 +127,8 @@ main-spec =
     lent-requires
     slice-aggregate-started
     started-requires
+    slice-aggregate-fresh
+    fresh-requires
     cast-out
     array-share-prefix-out
     slice-aggregate-write-all

@@ -16,7 +16,7 @@ abbrev Inv-loop : tie.InvT-loop
 Inv-loop out₀ from r cells₀ room₀ at₀ i₀ out cells room at i = (length out ≡ length out₀) × (length cells ≡ length cells₀) × (length room ≡ length room₀)
 
 abbrev μ-loop : tie.MeasureT-loop
-μ-loop out₀ from r cells₀ room₀ at₀ i₀ out cells room at i = 14 - i
+μ-loop out₀ from r cells₀ room₀ at₀ i₀ out cells room at i = 24 - i
 
 -- src/main.rt:514:5
 loop-holds : tie.Need-loop-holds Inv-loop μ-loop

@@ -14,7 +14,7 @@ abbrev Inv-loop : tie.InvT-loop
 Inv-loop out₀ from r cells₀ room₀ at₀ i₀ out cells room at i = (length out ≡ length out₀) × (length cells ≡ length cells₀) × (length room ≡ length room₀)
 
 abbrev μ-loop : tie.MeasureT-loop
-μ-loop out₀ from r cells₀ room₀ at₀ i₀ out cells room at i = 30 - i
+μ-loop out₀ from r cells₀ room₀ at₀ i₀ out cells room at i = 39 - i
 
 -- src/main.rt:494:5
 loop-holds : tie.Need-loop-holds Inv-loop μ-loop

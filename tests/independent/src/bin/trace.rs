@@ -1,9 +1,10 @@
-//! trace make-examples DIR                    writes the example traces and what they print by each scheme
+//! trace make-examples DIR                    writes the example traces and what they print by each scheme; those of
+//!                                            EDGES.md print what that page says, whatever this engine says
 //! trace show FILE                            a trace's events in words
 //! trace [speculation|blocking] run FILE      what the trace program prints for it; - for standard input
 
 use independent::event::*;
-use independent::{examples, trace, Scheme};
+use independent::{edges, examples, trace, Scheme};
 use std::io::Read;
 use std::path::Path;
 use std::process::ExitCode;
@@ -44,12 +45,8 @@ fn run(scheme: Scheme, file: &str) -> std::io::Result<()> {
 
 fn make_examples(folder: &Path) -> std::io::Result<()> {
     std::fs::create_dir_all(folder)?;
-    for example in examples::all() {
-        let bytes = example.bytes();
-        for (scheme, ending) in [(Scheme::Speculation, "expected"), (Scheme::Blocking, "blocking")] {
-            std::fs::write(folder.join(format!("{}.{ending}", example.name)), trace::replay(scheme, &bytes))?;
-        }
-        std::fs::write(folder.join(format!("{}.trace", example.name)), bytes)?;
+    for (name, contents) in examples::files().into_iter().chain(edges::files()) {
+        std::fs::write(folder.join(name), contents)?;
     }
     Ok(())
 }
