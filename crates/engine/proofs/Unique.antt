@@ -1,35 +1,24 @@
--- The contracts of `call`, `call_by`, `turn` and `start` allow one outcome each.
+-- Any two outcomes that the contracts of this crate's public functions allow are equal: what each returns and leaves in what was lent to it.
 use Prim.Native.Nat.{ℕ}
-use mathlib.Core.Path.{_≡_, sym, _∙_}
+use mathlib.Core.Path.{_≡_, refl, sym, _∙_}
 use mathlib.Core.List.{List}
-use Rattle.model.specs.Operations.{Cells}
-use Rattle.model.specs.declared.Event.{Event}
-use Rattle.model.specs.declared.Scheme.{Scheme}
-use Rattle.record.specs.declared.Record.{Record}
-use Rattle.engine.specs.Called.{called, cellsAfter, roomAfter, freshOf, turned}
+use Rattle.model.proofs.Unique.{Unique}
 use Rattle.engine.specs.declared.Called.{Called}
-use Rattle.engine.specs.declared.Fresh.{Fresh}
 use Rattle.engine.specs.declared.Turned.{Turned}
+use Rattle.engine.specs.Called.{turned}
+use Rattle.engine.proofs.turn.Kinds as turn-kinds
+use Rattle.engine.proofs.turn.Reads as turn
+use Rattle.engine.proofs.call_by.Kinds as call-by-kinds
+use Rattle.engine.proofs.call_by.Reads as call-by
+use Rattle.engine.proofs.call.Kinds as call-kinds
+use Rattle.engine.proofs.call.Reads as call
+use Rattle.engine.proofs.start.Kinds as start-kinds
+use Rattle.engine.proofs.start.Reads as start
 
--- what a call leaves: its result, the lent cells and the lent room
-pub record Outcome : Type 0 where
-  pub result : Called
-  pub cells : Cells
-  pub room : List ℕ
-
--- what the contracts of `call_by` a scheme and of `call`, which is by speculation, say of it
-pub record Allowed (σ : Scheme) (r : Record) (v : Event) (lent : Cells) (lentRoom : List ℕ) (o : Outcome) : Type 0 where
-  pub returns : o .result ≡ called σ r v lent lentRoom
-  pub leaves : o .cells ≡ cellsAfter σ r v lent lentRoom
-  pub fills : o .room ≡ roomAfter σ r v lent lentRoom
-
-pub call-unique : (σ : Scheme) (r : Record) (v : Event) (lent : Cells) (lentRoom : List ℕ) (a b : Outcome) → Allowed σ r v lent lentRoom a → Allowed σ r v lent lentRoom b → a ≡ b
-call-unique σ r v lent lentRoom a b p q = λ i. record { result = (p .returns ∙ sym (q .returns)) i; cells = (p .leaves ∙ sym (q .leaves)) i; room = (p .fills ∙ sym (q .fills)) i }
-
--- of `turn`: what it returns and the lent rows are one record's, and that is `called`
-pub turn-unique : (σ : Scheme) (r : Record) (v : Event) (lent : Cells) (lentRoom : List ℕ) (n : ℕ) (d e : Turned) (live live′ runs runs′ undo undo′ : List ℕ) → turned n d live runs undo ≡ called σ r v lent lentRoom → turned n e live′ runs′ undo′ ≡ called σ r v lent lentRoom
-    → (d ≡ e) × (live ≡ live′) × (runs ≡ runs′) × (undo ≡ undo′)
-turn-unique σ r v lent lentRoom n d e live live′ runs runs′ undo undo′ p q =
+-- what `turn` returns and the lent rows are together one record's parts
+parts : (n : ℕ) (all : Called) (d d′ : Turned) (live live′ runs runs′ undo undo′ : List ℕ) → turned n d live runs undo ≡ all → turned n d′ live′ runs′ undo′ ≡ all
+    → (d ≡ d′) × (live ≡ live′) × (runs ≡ runs′) × (undo ≡ undo′)
+parts n all d d′ live live′ runs runs′ undo undo′ p q =
     let s = p ∙ sym q in (
       (λ i. record { number = s i .number; answers = s i .answers; largest = s i .next .largest; uncommitted = s i .next .uncommitted; waiting = s i .next .waiting }),
       (λ i. s i .next .live),
@@ -37,5 +26,26 @@ turn-unique σ r v lent lentRoom n d e live live′ runs runs′ undo undo′ p 
       (λ i. s i .next .undo),
     )
 
-pub start-unique : (n : ℕ) (a b : Fresh) → a ≡ freshOf n → b ≡ freshOf n → a ≡ b
-start-unique n a b p q = p ∙ sym q
+pub turn-unique : Unique turn-kinds.ps turn-kinds.r turn.Learnt
+turn-unique κs a z z′ ws ws′ p q =
+    let v = ws .1 .1 .1 .1 .1 in
+    let v′ = ws′ .1 .1 .1 .1 .1 in
+    let x = parts (a .1 .0) _ z z′ (v .0) (v′ .0) (v .1 .0) (v′ .1 .0) (v .1 .1 .0) (v′ .1 .1 .0) (p .0) (q .0) in
+    let cells : v .1 .1 .1 .0 ≡ v′ .1 .1 .1 .0 = cc in
+    let room : v .1 .1 .1 .1 .1 .0 ≡ v′ .1 .1 .1 .1 .1 .0 = cc in
+    (x .0, λ j. (ws .0, (ws .1 .0, (ws .1 .1 .0, (ws .1 .1 .1 .0, (ws .1 .1 .1 .1 .0, (x .1 j, (x .2 j, (x .3 j, (cells j, (v .1 .1 .1 .1 .0, (room j, v .1 .1 .1 .1 .1 .1))))))))))))
+
+pub call-by-unique : Unique call-by-kinds.ps call-by-kinds.r call-by.Learnt
+call-by-unique κs a z z′ ws ws′ p q =
+    let cells : ws .1 .1 .0 ≡ ws′ .1 .1 .0 = cc in
+    let room : ws .1 .1 .1 .1 .0 ≡ ws′ .1 .1 .1 .1 .0 = cc in
+    (cc, λ j. (ws .0, (ws .1 .0, (cells j, (ws .1 .1 .1 .0, (room j, ws .1 .1 .1 .1 .1))))))
+
+pub call-unique : Unique call-kinds.ps call-kinds.r call.Learnt
+call-unique κs a z z′ ws ws′ p q =
+    let cells : ws .1 .0 ≡ ws′ .1 .0 = cc in
+    let room : ws .1 .1 .1 .0 ≡ ws′ .1 .1 .1 .0 = cc in
+    (cc, λ j. (ws .0, (cells j, (ws .1 .1 .0, (room j, ws .1 .1 .1 .1)))))
+
+pub start-unique : Unique start-kinds.ps start-kinds.r start.Learnt
+start-unique κs a z z′ ws ws′ p q = (cc, refl)

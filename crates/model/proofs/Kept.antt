@@ -118,6 +118,15 @@ step-keeps e c h =
     go zero q = let x = accepted-stays e c (sound-parts e h) (passed e c q) in (parts-sound (respond zero e c .engine) (x .sound), x .most)
     go (suc k) q = (h, omega arith)
 
+-- "One call sends at most 64", from every record: an unsound one is refused
+pub answers-most : (e : Engine) (c : Call) → length (step e c .answers) ≤ 64
+unfolding step
+answers-most e c = go (refusal e c) refl
+  where
+    go : (k : ℕ) → refusal e c ≡ k → length (respond k e c .answers) ≤ 64
+    go zero q = accepted-stays e c (sound-parts e (not-false (sound e) (passed e c q .one))) (passed e c q) .most
+    go (suc k) q = omega arith
+
 -- From a fresh start
 
 empty-sound : (n : ℕ) → n ≤ mostCells → sound (empty n) ≡ true

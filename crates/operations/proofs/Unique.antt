@@ -1,70 +1,103 @@
--- Any two outcomes that the contracts of this crate's public functions allow are equal.
-use mathlib.Core.Path.{_≡_}
-use Rattle.model.proofs.Unique.{same}
-use Prim.Native.Nat.{ℕ}
-use mathlib.Core.Bool.{Bool}
-use mathlib.Core.List.{List, []}
-use lib.ListN.{length, getD, set}
-use Rattle.model.specs.Operations.{Cells, known, uses, writes, mayFail, meaning, multi, last}
-use Rattle.model.specs.Refusals.{formedOp, blankOp, formed, blank, inside}
-use Rattle.model.specs.Steps.{run, undone}
-use Rattle.model.specs.declared.Did.{Did}
-use Rattle.model.specs.declared.Op.{Op}
-use Rattle.model.specs.declared.Fragment.{Fragment}
-use Rattle.operations.specs.Laid.{operated, afterwards, laid, entriesOf}
-use Rattle.operations.specs.declared.Ran.{Ran}
-use Rattle.operations.specs.declared.Operated.{Operated}
+-- Any two outcomes that the contracts of this crate's public functions allow are equal: what each returns and leaves in what was lent to it.
+use mathlib.Core.Path.{_≡_, refl}
+use Rattle.model.proofs.Unique.{Unique}
+use Rattle.operations.proofs.is_known.Kinds as is-known-kinds
+use Rattle.operations.proofs.is_known.Reads as is-known
+use Rattle.operations.proofs.uses_amount.Kinds as uses-amount-kinds
+use Rattle.operations.proofs.uses_amount.Reads as uses-amount
+use Rattle.operations.proofs.may_write.Kinds as may-write-kinds
+use Rattle.operations.proofs.may_write.Reads as may-write
+use Rattle.operations.proofs.may_fail.Kinds as may-fail-kinds
+use Rattle.operations.proofs.may_fail.Reads as may-fail
+use Rattle.operations.proofs.apply.Kinds as apply-kinds
+use Rattle.operations.proofs.apply.Reads as apply
+use Rattle.operations.proofs.number_at.Kinds as number-at-kinds
+use Rattle.operations.proofs.number_at.Reads as number-at
+use Rattle.operations.proofs.put_at.Kinds as put-at-kinds
+use Rattle.operations.proofs.put_at.Reads as put-at
+use Rattle.operations.proofs.operate_on.Kinds as operate-on-kinds
+use Rattle.operations.proofs.operate_on.Reads as operate-on
+use Rattle.operations.proofs.undo.Kinds as undo-kinds
+use Rattle.operations.proofs.undo.Reads as undo
+use Rattle.operations.proofs.run_fragment.Kinds as run-fragment-kinds
+use Rattle.operations.proofs.run_fragment.Reads as run-fragment
+use Rattle.operations.proofs.continue_fragment.Kinds as continue-fragment-kinds
+use Rattle.operations.proofs.continue_fragment.Reads as continue-fragment
+use Rattle.operations.proofs.is_multi.Kinds as is-multi-kinds
+use Rattle.operations.proofs.is_multi.Reads as is-multi
+use Rattle.operations.proofs.is_last.Kinds as is-last-kinds
+use Rattle.operations.proofs.is_last.Reads as is-last
+use Rattle.operations.proofs.is_formed_op.Kinds as is-formed-op-kinds
+use Rattle.operations.proofs.is_formed_op.Reads as is-formed-op
+use Rattle.operations.proofs.is_blank_op.Kinds as is-blank-op-kinds
+use Rattle.operations.proofs.is_blank_op.Reads as is-blank-op
+use Rattle.operations.proofs.is_formed.Kinds as is-formed-kinds
+use Rattle.operations.proofs.is_formed.Reads as is-formed
+use Rattle.operations.proofs.is_blank.Kinds as is-blank-kinds
+use Rattle.operations.proofs.is_blank.Reads as is-blank
+use Rattle.operations.proofs.is_inside.Kinds as is-inside-kinds
+use Rattle.operations.proofs.is_inside.Reads as is-inside
 
-pub is-known-unique : (code : ℕ) (a b : Bool) → a ≡ known code → b ≡ known code → a ≡ b
-is-known-unique code a b p0 q0 = same (known code) a b p0 q0
+pub is-known-unique : Unique is-known-kinds.ps is-known-kinds.r is-known.Learnt
+is-known-unique κs a z z′ ws ws′ p q = (cc, refl)
 
-pub uses-amount-unique : (code : ℕ) (a b : Bool) → a ≡ uses code → b ≡ uses code → a ≡ b
-uses-amount-unique code a b p0 q0 = same (uses code) a b p0 q0
+pub uses-amount-unique : Unique uses-amount-kinds.ps uses-amount-kinds.r uses-amount.Learnt
+uses-amount-unique κs a z z′ ws ws′ p q = (cc, refl)
 
-pub may-write-unique : (code : ℕ) (a b : Bool) → a ≡ writes code → b ≡ writes code → a ≡ b
-may-write-unique code a b p0 q0 = same (writes code) a b p0 q0
+pub may-write-unique : Unique may-write-kinds.ps may-write-kinds.r may-write.Learnt
+may-write-unique κs a z z′ ws ws′ p q = (cc, refl)
 
-pub may-fail-unique : (code : ℕ) (a b : Bool) → a ≡ mayFail code → b ≡ mayFail code → a ≡ b
-may-fail-unique code a b p0 q0 = same (mayFail code) a b p0 q0
+pub may-fail-unique : Unique may-fail-kinds.ps may-fail-kinds.r may-fail.Learnt
+may-fail-unique κs a z z′ ws ws′ p q = (cc, refl)
 
-pub apply-unique : (code x v : ℕ) (a b : Did) → a ≡ meaning code x v → b ≡ meaning code x v → a ≡ b
-apply-unique code x v a b p0 q0 = same (meaning code x v) a b p0 q0
+pub apply-unique : Unique apply-kinds.ps apply-kinds.r apply.Learnt
+apply-unique κs a z z′ ws ws′ p q = (cc, refl)
 
-pub number-at-unique : (l : List ℕ) (i : ℕ) (a b : ℕ) → a ≡ getD l i 0 → b ≡ getD l i 0 → a ≡ b
-number-at-unique l i a b p0 q0 = same (getD l i 0) a b p0 q0
+pub number-at-unique : Unique number-at-kinds.ps number-at-kinds.r number-at.Learnt
+number-at-unique κs a z z′ ws ws′ p q = (cc, refl)
 
-pub put-at-unique : (l : List ℕ) (i y : ℕ) (a b : List ℕ) → a ≡ set l i y → b ≡ set l i y → a ≡ b
-put-at-unique l i y a b p0 q0 = same (set l i y) a b p0 q0
+pub put-at-unique : Unique put-at-kinds.ps put-at-kinds.r put-at.Learnt
+put-at-unique κs a z z′ ws ws′ p q =
+    let b : ws .0 ≡ ws′ .0 = cc in
+    (refl, λ j. (b j, ws .1))
 
-pub operate-on-unique : (cells : Cells) (o : Op) (a b : Operated) (c d : Cells) → a ≡ operated o cells → b ≡ operated o cells → c ≡ afterwards o cells → d ≡ afterwards o cells → (a ≡ b) × (c ≡ d)
-operate-on-unique cells o a b c d p0 q0 p1 q1 = (same (operated o cells) a b p0 q0, same (afterwards o cells) c d p1 q1)
+pub operate-on-unique : Unique operate-on-kinds.ps operate-on-kinds.r operate-on.Learnt
+operate-on-unique κs a z z′ ws ws′ p q =
+    let b : ws .0 ≡ ws′ .0 = cc in
+    (cc, λ j. (b j, ws .1))
 
-pub undo-unique : (cells : Cells) (entries : List ℕ) (n : ℕ) (a b : Cells) → a ≡ undone (entriesOf entries 0 n) cells → b ≡ undone (entriesOf entries 0 n) cells → a ≡ b
-undo-unique cells entries n a b p0 q0 = same (undone (entriesOf entries 0 n) cells) a b p0 q0
+pub undo-unique : Unique undo-kinds.ps undo-kinds.r undo.Learnt
+undo-unique κs a z z′ ws ws′ p q =
+    let b : ws .0 ≡ ws′ .0 = cc in
+    (refl, λ j. (b j, ws .1))
 
-pub run-fragment-unique : (cells : Cells) (f : Fragment) (a b : Ran) (c d : Cells) → a ≡ laid (run f cells []) → b ≡ laid (run f cells []) → c ≡ run f cells [] .cells → d ≡ run f cells [] .cells → (a ≡ b) × (c ≡ d)
-run-fragment-unique cells f a b c d p0 q0 p1 q1 = (same (laid (run f cells [])) a b p0 q0, same (run f cells [] .cells) c d p1 q1)
+pub run-fragment-unique : Unique run-fragment-kinds.ps run-fragment-kinds.r run-fragment.Learnt
+run-fragment-unique κs a z z′ ws ws′ p q =
+    let b : ws .0 ≡ ws′ .0 = cc in
+    (cc, λ j. (b j, ws .1))
 
-pub continue-fragment-unique : (cells : Cells) (f : Fragment) (earlier : List ℕ) (n : ℕ) (a b : Ran) (c d : Cells) → a ≡ laid (run f cells []) → b ≡ laid (run f cells []) → c ≡ run f cells (entriesOf earlier 0 n) .cells → d ≡ run f cells (entriesOf earlier 0 n) .cells → (a ≡ b) × (c ≡ d)
-continue-fragment-unique cells f earlier n a b c d p0 q0 p1 q1 = (same (laid (run f cells [])) a b p0 q0, same (run f cells (entriesOf earlier 0 n) .cells) c d p1 q1)
+pub continue-fragment-unique : Unique continue-fragment-kinds.ps continue-fragment-kinds.r continue-fragment.Learnt
+continue-fragment-unique κs a z z′ ws ws′ p q =
+    let b : ws .0 ≡ ws′ .0 = cc in
+    (cc, λ j. (b j, ws .1))
 
-pub is-multi-unique : (f : Fragment) (a b : Bool) → a ≡ multi f → b ≡ multi f → a ≡ b
-is-multi-unique f a b p0 q0 = same (multi f) a b p0 q0
+pub is-multi-unique : Unique is-multi-kinds.ps is-multi-kinds.r is-multi.Learnt
+is-multi-unique κs a z z′ ws ws′ p q = (cc, refl)
 
-pub is-last-unique : (f : Fragment) (a b : Bool) → a ≡ last f → b ≡ last f → a ≡ b
-is-last-unique f a b p0 q0 = same (last f) a b p0 q0
+pub is-last-unique : Unique is-last-kinds.ps is-last-kinds.r is-last.Learnt
+is-last-unique κs a z z′ ws ws′ p q = (cc, refl)
 
-pub is-formed-op-unique : (o : Op) (a b : Bool) → a ≡ formedOp o → b ≡ formedOp o → a ≡ b
-is-formed-op-unique o a b p0 q0 = same (formedOp o) a b p0 q0
+pub is-formed-op-unique : Unique is-formed-op-kinds.ps is-formed-op-kinds.r is-formed-op.Learnt
+is-formed-op-unique κs a z z′ ws ws′ p q = (cc, refl)
 
-pub is-blank-op-unique : (o : Op) (a b : Bool) → a ≡ blankOp o → b ≡ blankOp o → a ≡ b
-is-blank-op-unique o a b p0 q0 = same (blankOp o) a b p0 q0
+pub is-blank-op-unique : Unique is-blank-op-kinds.ps is-blank-op-kinds.r is-blank-op.Learnt
+is-blank-op-unique κs a z z′ ws ws′ p q = (cc, refl)
 
-pub is-formed-unique : (f : Fragment) (a b : Bool) → a ≡ formed f → b ≡ formed f → a ≡ b
-is-formed-unique f a b p0 q0 = same (formed f) a b p0 q0
+pub is-formed-unique : Unique is-formed-kinds.ps is-formed-kinds.r is-formed.Learnt
+is-formed-unique κs a z z′ ws ws′ p q = (cc, refl)
 
-pub is-blank-unique : (f : Fragment) (a b : Bool) → a ≡ blank f → b ≡ blank f → a ≡ b
-is-blank-unique f a b p0 q0 = same (blank f) a b p0 q0
+pub is-blank-unique : Unique is-blank-kinds.ps is-blank-kinds.r is-blank.Learnt
+is-blank-unique κs a z z′ ws ws′ p q = (cc, refl)
 
-pub is-inside-unique : (n : ℕ) (f : Fragment) (a b : Bool) → a ≡ inside n f → b ≡ inside n f → a ≡ b
-is-inside-unique n f a b p0 q0 = same (inside n f) a b p0 q0
+pub is-inside-unique : Unique is-inside-kinds.ps is-inside-kinds.r is-inside.Learnt
+is-inside-unique κs a z z′ ws ws′ p q = (cc, refl)

@@ -1,26 +1,34 @@
--- Any two outcomes that the contracts of this crate's public functions allow are equal.
-use mathlib.Core.Path.{_≡_}
-use Rattle.model.proofs.Unique.{same}
-use Prim.Native.Nat.{ℕ}
-use mathlib.Core.List.{List, []}
-use lib.ListN.{length, take}
-use lib.Seq.{sets}
-use Rattle.model.specs.declared.Fragment.{Fragment}
-use Rattle.operations.specs.Laid.{padded}
-use Rattle.record.specs.Words.{rowWords}
-use Rattle.record.specs.View.{fragmentAt, numbersFrom}
+-- Any two outcomes that the contracts of this crate's public functions allow are equal: what each returns and leaves in what was lent to it.
+use mathlib.Core.Path.{_≡_, refl}
+use Rattle.model.proofs.Unique.{Unique}
+use Rattle.record.proofs.fragment_at.Kinds as fragment-at-kinds
+use Rattle.record.proofs.fragment_at.Reads as fragment-at
+use Rattle.record.proofs.row_words.Kinds as row-words-kinds
+use Rattle.record.proofs.row_words.Reads as row-words
+use Rattle.record.proofs.lay.Kinds as lay-kinds
+use Rattle.record.proofs.lay.Reads as lay
+use Rattle.record.proofs.shift.Kinds as shift-kinds
+use Rattle.record.proofs.shift.Reads as shift
+use Rattle.record.proofs.clear.Kinds as clear-kinds
+use Rattle.record.proofs.clear.Reads as clear
 
-pub fragment-at-unique : (row : List ℕ) (n : ℕ) (a b : Fragment) → a ≡ fragmentAt row n → b ≡ fragmentAt row n → a ≡ b
-fragment-at-unique row n a b p0 q0 = same (fragmentAt row n) a b p0 q0
+pub fragment-at-unique : Unique fragment-at-kinds.ps fragment-at-kinds.r fragment-at.Learnt
+fragment-at-unique κs a z z′ ws ws′ p q = (cc, refl)
 
-pub row-words-unique : (n : ℕ) (f : Fragment) (a b : List ℕ) → a ≡ rowWords n f → b ≡ rowWords n f → a ≡ b
-row-words-unique n f a b p0 q0 = same (rowWords n f) a b p0 q0
+pub row-words-unique : Unique row-words-kinds.ps row-words-kinds.r row-words.Learnt
+row-words-unique κs a z z′ ws ws′ p q = (cc, refl)
 
-pub lay-unique : (row : List ℕ) (at : ℕ) (words : List ℕ) (n : ℕ) (a b : List ℕ) → a ≡ sets row at (numbersFrom words 0 n) → b ≡ sets row at (numbersFrom words 0 n) → a ≡ b
-lay-unique row at words n a b p0 q0 = same (sets row at (numbersFrom words 0 n)) a b p0 q0
+pub lay-unique : Unique lay-kinds.ps lay-kinds.r lay.Learnt
+lay-unique κs a z z′ ws ws′ p q =
+    let b : ws .0 ≡ ws′ .0 = cc in
+    (refl, λ j. (b j, ws .1))
 
-pub shift-unique : (row : List ℕ) (k m : ℕ) (a b : List ℕ) → a ≡ sets row 0 (numbersFrom row k m) → b ≡ sets row 0 (numbersFrom row k m) → a ≡ b
-shift-unique row k m a b p0 q0 = same (sets row 0 (numbersFrom row k m)) a b p0 q0
+pub shift-unique : Unique shift-kinds.ps shift-kinds.r shift.Learnt
+shift-unique κs a z z′ ws ws′ p q =
+    let b : ws .0 ≡ ws′ .0 = cc in
+    (refl, λ j. (b j, ws .1))
 
-pub clear-unique : (row : List ℕ) (n : ℕ) (a b : List ℕ) → a ≡ padded (length row) (take n row) → b ≡ padded (length row) (take n row) → a ≡ b
-clear-unique row n a b p0 q0 = same (padded (length row) (take n row)) a b p0 q0
+pub clear-unique : Unique clear-kinds.ps clear-kinds.r clear.Learnt
+clear-unique κs a z z′ ws ws′ p q =
+    let b : ws .0 ≡ ws′ .0 = cc in
+    (refl, λ j. (b j, ws .1))

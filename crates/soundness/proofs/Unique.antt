@@ -1,11 +1,8 @@
--- Any two outcomes that the contracts of this crate's public functions allow are equal.
-use mathlib.Core.Path.{_≡_}
-use Rattle.model.proofs.Unique.{same}
-use Prim.Native.Nat.{ℕ}
-use mathlib.Core.Bool.{Bool}
-use mathlib.Core.List.{List, []}
-use Rattle.model.specs.Refusals.{sound}
-use Rattle.record.specs.View.{viewOf}
+-- Any two outcomes that the contracts of this crate's public functions allow are equal: what each returns and leaves in what was lent to it.
+use mathlib.Core.Path.{_≡_, refl}
+use Rattle.model.proofs.Unique.{Unique}
+use Rattle.soundness.proofs.is_sound.Kinds as is-sound-kinds
+use Rattle.soundness.proofs.is_sound.Reads as is-sound
 
-pub is-sound-unique : (count largest u w : ℕ) (live runs undo : List ℕ) (a b : Bool) → a ≡ sound (viewOf count largest u w live runs undo) → b ≡ sound (viewOf count largest u w live runs undo) → a ≡ b
-is-sound-unique count largest u w live runs undo a b p0 q0 = same (sound (viewOf count largest u w live runs undo)) a b p0 q0
+pub is-sound-unique : Unique is-sound-kinds.ps is-sound-kinds.r is-sound.Learnt
+is-sound-unique κs a z z′ ws ws′ p q = (cc, refl)

@@ -1,21 +1,28 @@
--- Any two outcomes that the contract of `tidy` allows on a sound record are equal. What it leaves of rows that are no sound record's is not
--- promised: no call hands such rows to it.
-use Prim.Native.Nat.{ℕ, _*_}
-use mathlib.Core.Path.{_≡_, sym, _∙_}
-use mathlib.Core.List.{List}
-use Rattle.model.specs.Transactions.{Uncommitted, Waiting}
-use Rattle.tidy.specs.Tidied.{Canonical}
+-- Any two outcomes that the contract of `tidy` allows on the rows of a sound record are equal. Of other rows it says nothing: no call hands such
+-- rows to it.
+use Prim.Native.Nat.{ℕ}
+use mathlib.Core.Path.{_≡_}
+use mathlib.Core.Bool.{true}
+use lib.ListN.{length}
+use contract.Lifetimes.{Lfts}
+use denote.Ref.{now}
+use denote.Triple.Clauses.{Lasts, atExit}
+use borrow.Fn.Kinds.{Dens, resT, endedOf}
+use Rattle.model.specs.Refusals.{sound}
+use Rattle.record.specs.View.{viewOf}
+use Rattle.tidy.proofs.tidy.Kinds as tidy-kinds
+use Rattle.tidy.proofs.tidy.Reads as tidy
 
-pub record Left : Type 0 where
-  pub entries : ℕ
-  pub live : List ℕ
-  pub runs : List ℕ
-  pub undo : List ℕ
-
-pub tidy-unique : (us : List Uncommitted) (ws : List Waiting) (a b : Left) → Canonical us ws (a .entries) (a .live) (a .runs) (a .undo) → Canonical us ws (b .entries) (b .live) (b .runs) (b .undo) → a ≡ b
-tidy-unique us ws a b p q = λ i. record {
-  entries = (p .entries ∙ sym (q .entries)) i;
-  live = (p .live ∙ sym (q .live)) i;
-  runs = (p .runs ∙ sym (q .runs)) i;
-  undo = (p .undo ∙ sym (q .undo)) i;
-}
+pub tidy-unique : (κs : Lfts 3) (a : Dens κs tidy-kinds.ps) (count largest : ℕ)
+    → length (now (a .1 .1 .0)) ≡ 1792 → length (now (a .1 .1 .1 .0)) ≡ 256 → length (now (a .1 .1 .1 .1 .0)) ≡ 368
+    → sound (viewOf count largest (a .0) (a .1 .0) (now (a .1 .1 .0)) (now (a .1 .1 .1 .0)) (now (a .1 .1 .1 .1 .0))) ≡ true
+    → (z z′ : resT tidy-kinds.r κs .Denot) (ws ws′ : Lasts (endedOf 3 tidy-kinds.ps tidy-kinds.r) κs a)
+    → tidy.Learnt κs a z (atExit (endedOf 3 tidy-kinds.ps tidy-kinds.r) κs a ws) → tidy.Learnt κs a z′ (atExit (endedOf 3 tidy-kinds.ps tidy-kinds.r) κs a ws′)
+    → (z ≡ z′) × (ws ≡ ws′)
+tidy-unique κs a count largest l m n s z z′ ws ws′ p q =
+    let x = p count largest l m n s in
+    let y = q count largest l m n s in
+    let b : ws .1 .1 .0 ≡ ws′ .1 .1 .0 = cc in
+    let c : ws .1 .1 .1 .0 ≡ ws′ .1 .1 .1 .0 = cc in
+    let d : ws .1 .1 .1 .1 .0 ≡ ws′ .1 .1 .1 .1 .0 = cc in
+    (cc, λ j. (ws .0, (ws .1 .0, (b j, (c j, (d j, ws .1 .1 .1 .1 .1))))))

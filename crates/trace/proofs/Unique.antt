@@ -1,41 +1,67 @@
--- Any two outcomes that the contracts of this crate's public functions allow are equal.
-use mathlib.Core.Path.{_≡_}
-use Rattle.model.proofs.Unique.{same}
-use Prim.Native.Nat.{ℕ, _+_}
-use mathlib.Core.List.{List}
-use lib.ListN.{length}
-use lib.Seq.{sets}
-use Rattle.model.specs.declared.Event.{Event}
-use Rattle.trace.specs.declared.Shape.{Shape}
-use Rattle.trace.specs.Format.{wordAt, wordsFrom, eventAt, shapeOf}
-use Rattle.trace.specs.Text.{decimal, lineE, lineA, lineC, badTrace, badScheme}
+-- Any two outcomes that the contracts of this crate's public functions allow are equal: what each returns and leaves in what was lent to it.
+use mathlib.Core.Path.{_≡_, refl}
+use Rattle.model.proofs.Unique.{Unique}
+use Rattle.trace.proofs.word.Kinds as word-kinds
+use Rattle.trace.proofs.word.Reads as word
+use Rattle.trace.proofs.shape_of.Kinds as shape-of-kinds
+use Rattle.trace.proofs.shape_of.Reads as shape-of
+use Rattle.trace.proofs.event_at.Kinds as event-at-kinds
+use Rattle.trace.proofs.event_at.Reads as event-at
+use Rattle.trace.proofs.copy_cells.Kinds as copy-cells-kinds
+use Rattle.trace.proofs.copy_cells.Reads as copy-cells
+use Rattle.trace.proofs.put_number.Kinds as put-number-kinds
+use Rattle.trace.proofs.put_number.Reads as put-number
+use Rattle.trace.proofs.put_e.Kinds as put-e-kinds
+use Rattle.trace.proofs.put_e.Reads as put-e
+use Rattle.trace.proofs.put_a.Kinds as put-a-kinds
+use Rattle.trace.proofs.put_a.Reads as put-a
+use Rattle.trace.proofs.put_c.Kinds as put-c-kinds
+use Rattle.trace.proofs.put_c.Reads as put-c
+use Rattle.trace.proofs.put_bad.Kinds as put-bad-kinds
+use Rattle.trace.proofs.put_bad.Reads as put-bad
+use Rattle.trace.proofs.put_bad_scheme.Kinds as put-bad-scheme-kinds
+use Rattle.trace.proofs.put_bad_scheme.Reads as put-bad-scheme
 
-pub word-unique : (bytes : List ℕ) (i : ℕ) (a b : ℕ) → a ≡ wordAt bytes i → b ≡ wordAt bytes i → a ≡ b
-word-unique bytes i a b p0 q0 = same (wordAt bytes i) a b p0 q0
+pub word-unique : Unique word-kinds.ps word-kinds.r word.Learnt
+word-unique κs a z z′ ws ws′ p q = (cc, refl)
 
-pub shape-of-unique : (bytes : List ℕ) (a b : Shape) → a ≡ shapeOf bytes → b ≡ shapeOf bytes → a ≡ b
-shape-of-unique bytes a b p0 q0 = same (shapeOf bytes) a b p0 q0
+pub shape-of-unique : Unique shape-of-kinds.ps shape-of-kinds.r shape-of.Learnt
+shape-of-unique κs a z z′ ws ws′ p q = (cc, refl)
 
-pub event-at-unique : (bytes : List ℕ) (i : ℕ) (a b : Event) → a ≡ eventAt bytes i → b ≡ eventAt bytes i → a ≡ b
-event-at-unique bytes i a b p0 q0 = same (eventAt bytes i) a b p0 q0
+pub event-at-unique : Unique event-at-kinds.ps event-at-kinds.r event-at.Learnt
+event-at-unique κs a z z′ ws ws′ p q = (cc, refl)
 
-pub copy-cells-unique : (bytes : List ℕ) (n : ℕ) (cells : List ℕ) (a b : List ℕ) → a ≡ sets cells 0 (wordsFrom bytes 4 n) → b ≡ sets cells 0 (wordsFrom bytes 4 n) → a ≡ b
-copy-cells-unique bytes n cells a b p0 q0 = same (sets cells 0 (wordsFrom bytes 4 n)) a b p0 q0
+pub copy-cells-unique : Unique copy-cells-kinds.ps copy-cells-kinds.r copy-cells.Learnt
+copy-cells-unique κs a z z′ ws ws′ p q =
+    let b : ws .1 .1 .0 ≡ ws′ .1 .1 .0 = cc in
+    (refl, λ j. (ws .0, (ws .1 .0, (b j, ws .1 .1 .1))))
 
-pub put-number-unique : (buffer : List ℕ) (at : ℕ) (n : ℕ) (a b : ℕ) (c d : List ℕ) → a ≡ at + length (decimal n) → b ≡ at + length (decimal n) → c ≡ sets buffer at (decimal n) → d ≡ sets buffer at (decimal n) → (a ≡ b) × (c ≡ d)
-put-number-unique buffer at n a b c d p0 q0 p1 q1 = (same (at + length (decimal n)) a b p0 q0, same (sets buffer at (decimal n)) c d p1 q1)
+pub put-number-unique : Unique put-number-kinds.ps put-number-kinds.r put-number.Learnt
+put-number-unique κs a z z′ ws ws′ p q =
+    let b : ws .0 ≡ ws′ .0 = cc in
+    (cc, λ j. (b j, ws .1))
 
-pub put-e-unique : (buffer : List ℕ) (at : ℕ) (position number : ℕ) (a b : ℕ) (c d : List ℕ) → a ≡ at + length (lineE position number) → b ≡ at + length (lineE position number) → c ≡ sets buffer at (lineE position number) → d ≡ sets buffer at (lineE position number) → (a ≡ b) × (c ≡ d)
-put-e-unique buffer at position number a b c d p0 q0 p1 q1 = (same (at + length (lineE position number)) a b p0 q0, same (sets buffer at (lineE position number)) c d p1 q1)
+pub put-e-unique : Unique put-e-kinds.ps put-e-kinds.r put-e.Learnt
+put-e-unique κs a z z′ ws ws′ p q =
+    let b : ws .0 ≡ ws′ .0 = cc in
+    (cc, λ j. (b j, ws .1))
 
-pub put-a-unique : (buffer : List ℕ) (at : ℕ) (room : List ℕ) (i : ℕ) (a b : ℕ) (c d : List ℕ) → a ≡ at + length (lineA room i) → b ≡ at + length (lineA room i) → c ≡ sets buffer at (lineA room i) → d ≡ sets buffer at (lineA room i) → (a ≡ b) × (c ≡ d)
-put-a-unique buffer at room i a b c d p0 q0 p1 q1 = (same (at + length (lineA room i)) a b p0 q0, same (sets buffer at (lineA room i)) c d p1 q1)
+pub put-a-unique : Unique put-a-kinds.ps put-a-kinds.r put-a.Learnt
+put-a-unique κs a z z′ ws ws′ p q =
+    let b : ws .0 ≡ ws′ .0 = cc in
+    (cc, λ j. (b j, ws .1))
 
-pub put-c-unique : (buffer : List ℕ) (at : ℕ) (cell content : ℕ) (a b : ℕ) (c d : List ℕ) → a ≡ at + length (lineC cell content) → b ≡ at + length (lineC cell content) → c ≡ sets buffer at (lineC cell content) → d ≡ sets buffer at (lineC cell content) → (a ≡ b) × (c ≡ d)
-put-c-unique buffer at cell content a b c d p0 q0 p1 q1 = (same (at + length (lineC cell content)) a b p0 q0, same (sets buffer at (lineC cell content)) c d p1 q1)
+pub put-c-unique : Unique put-c-kinds.ps put-c-kinds.r put-c.Learnt
+put-c-unique κs a z z′ ws ws′ p q =
+    let b : ws .0 ≡ ws′ .0 = cc in
+    (cc, λ j. (b j, ws .1))
 
-pub put-bad-unique : (buffer : List ℕ) (at : ℕ) (a b : ℕ) (c d : List ℕ) → a ≡ at + length (badTrace) → b ≡ at + length (badTrace) → c ≡ sets buffer at (badTrace) → d ≡ sets buffer at (badTrace) → (a ≡ b) × (c ≡ d)
-put-bad-unique buffer at a b c d p0 q0 p1 q1 = (same (at + length (badTrace)) a b p0 q0, same (sets buffer at (badTrace)) c d p1 q1)
+pub put-bad-unique : Unique put-bad-kinds.ps put-bad-kinds.r put-bad.Learnt
+put-bad-unique κs a z z′ ws ws′ p q =
+    let b : ws .0 ≡ ws′ .0 = cc in
+    (cc, λ j. (b j, ws .1))
 
-pub put-bad-scheme-unique : (buffer : List ℕ) (at : ℕ) (a b : ℕ) (c d : List ℕ) → a ≡ at + length (badScheme) → b ≡ at + length (badScheme) → c ≡ sets buffer at (badScheme) → d ≡ sets buffer at (badScheme) → (a ≡ b) × (c ≡ d)
-put-bad-scheme-unique buffer at a b c d p0 q0 p1 q1 = (same (at + length (badScheme)) a b p0 q0, same (sets buffer at (badScheme)) c d p1 q1)
+pub put-bad-scheme-unique : Unique put-bad-scheme-kinds.ps put-bad-scheme-kinds.r put-bad-scheme.Learnt
+put-bad-scheme-unique κs a z z′ ws ws′ p q =
+    let b : ws .0 ≡ ws′ .0 = cc in
+    (cc, λ j. (b j, ws .1))
