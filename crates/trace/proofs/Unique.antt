@@ -9,8 +9,6 @@ use Rattle.trace.proofs.event_at.Kinds as event-at-kinds
 use Rattle.trace.proofs.event_at.Reads as event-at
 use Rattle.trace.proofs.copy_cells.Kinds as copy-cells-kinds
 use Rattle.trace.proofs.copy_cells.Reads as copy-cells
-use Rattle.trace.proofs.put_number.Kinds as put-number-kinds
-use Rattle.trace.proofs.put_number.Reads as put-number
 use Rattle.trace.proofs.put_e.Kinds as put-e-kinds
 use Rattle.trace.proofs.put_e.Reads as put-e
 use Rattle.trace.proofs.put_a.Kinds as put-a-kinds
@@ -35,11 +33,6 @@ pub copy-cells-unique : Unique copy-cells-kinds.ps copy-cells-kinds.r copy-cells
 copy-cells-unique κs a z z′ ws ws′ p q =
     let b : ws .1 .1 .0 ≡ ws′ .1 .1 .0 = cc in
     (refl, λ j. (ws .0, (ws .1 .0, (b j, ws .1 .1 .1))))
-
-pub put-number-unique : Unique put-number-kinds.ps put-number-kinds.r put-number.Learnt
-put-number-unique κs a z z′ ws ws′ p q =
-    let b : ws .0 ≡ ws′ .0 = cc in
-    (cc, λ j. (b j, ws .1))
 
 pub put-e-unique : Unique put-e-kinds.ps put-e-kinds.r put-e.Learnt
 put-e-unique κs a z z′ ws ws′ p q =

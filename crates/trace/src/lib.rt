@@ -174,14 +174,6 @@ pub(crate) fn put_decimal(buffer: &mut [u8], at: usize, n: u32) -> usize
     at + k
 }
 
-// The same from any place of 32 bits.
-pub fn put_number(buffer: &mut [u8], at: u32, n: u32) -> usize
-    ensures { λ r. ⌜ r ≡ at + length (decimal n) ⌝ }
-    ensures { λ r. ⌜ now (buffer .exit) ≡ sets (now (buffer .entry)) at (decimal n) ⌝ }
-{
-    put_decimal(buffer, at as usize, n)
-}
-
 // "one blank between fields": `count` numbers of a row from place `from` on, a blank before each.
 pub(crate) fn put_fields(
     buffer: &mut [u8],

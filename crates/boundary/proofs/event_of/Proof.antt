@@ -10,27 +10,21 @@ use Rattle.boundary.proofs.event_of.Lts as lts
 use Rattle.operations.proofs.number_at.Reads as number-at-reads
 use Rattle.record.proofs.fragment_at.Reads as fragment-at-reads
 
--- src/lib.rt:15:9
 fragment-at-requires : tie.Need-fragment-at-requires
 fragment-at-requires c κs = search needs
 
--- src/lib.rt:16:9
 number-at-requires : tie.Need-number-at-requires
 number-at-requires c κs = search needs
 
--- src/lib.rt:18:25
 cast-if1 : tie.Need-cast-if1
 cast-if1 c = search needs
 
--- src/lib.rt:18:9
 returns : tie.Need-returns
 returns c = event-by false (c .before .before .before .before .args .words .now) 0 _ _ (ne-eqb _ 29 (c .if1 .taken)) refl (c .before .number-at .ensures) (c .before .before .fragment-at .ensures)
 
--- src/lib.rt:25:15
 number-at-requires-2 : tie.Need-number-at-requires-2
 number-at-requires-2 c κs = search needs
 
--- src/lib.rt:12:1
 returns-2 : tie.Need-returns-2
 returns-2 c = event-by true (c .before .before .before .before .before .args .words .now) _ _ _ (eq-eqb _ 29 (c .before .if1 .left)) (c .number-at2 .ensures) (c .before .before .number-at .ensures) (c .before .before .before .fragment-at .ensures)
 

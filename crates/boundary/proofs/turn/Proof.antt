@@ -9,23 +9,18 @@ use Rattle.boundary.proofs.turn.Lts as lts
 use Rattle.boundary.proofs.event_of.Reads as event-of-reads
 use Rattle.engine.proofs.turn.Reads as turn-reads
 
--- src/lib.rt:47:9
 event-of-requires : tie.Need-event-of-requires
 event-of-requires c κs = search needs
 
--- src/lib.rt:48:5
 turn-requires : tie.Need-turn-requires
 turn-requires c κs = search needs
 
--- src/lib.rt:33:1
 same-length : tie.Need-same-length
 same-length c = search needs
 
--- src/lib.rt:33:1
 same-length-2 : tie.Need-same-length-2
 same-length-2 c = search needs
 
--- src/lib.rt:33:1
 returns : tie.Need-returns
 returns c = let a = c .before .before .before .before .before .before .before .before .before .before .before .before .before .before .args in
     let r = recordBy (a .count) (a .largest) (a .uncommitted) (a .waiting) (a .live .now) (a .runs .now) (a .undo .now) in

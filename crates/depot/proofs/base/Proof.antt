@@ -9,67 +9,51 @@ use Rattle.depot.proofs.arrival.Reads as arrival-reads
 use Rattle.depot.proofs.front.Reads as front-reads
 use Rattle.depot.proofs.op.Reads as op-reads
 
--- src/main.rt:271:9
 front-requires : tie.Need-front-requires
 front-requires c κs = search needs
 
--- src/main.rt:272:48
 op-requires : tie.Need-op-requires
 op-requires c κs = search needs
 
--- src/main.rt:272:31
 arrival-requires : tie.Need-arrival-requires
 arrival-requires c κs = search needs
 
--- src/main.rt:272:9
 after-requires : tie.Need-after-requires
 after-requires c κs = search needs
 
--- src/main.rt:273:48
 op-requires-2 : tie.Need-op-requires-2
 op-requires-2 c κs = search needs
 
--- src/main.rt:273:31
 arrival-requires-2 : tie.Need-arrival-requires-2
 arrival-requires-2 c κs = search needs
 
--- src/main.rt:273:9
 after-requires-2 : tie.Need-after-requires-2
 after-requires-2 c κs = search needs
 
--- src/main.rt:274:48
 op-requires-3 : tie.Need-op-requires-3
 op-requires-3 c κs = search needs
 
--- src/main.rt:274:31
 arrival-requires-3 : tie.Need-arrival-requires-3
 arrival-requires-3 c κs = search needs
 
--- src/main.rt:274:9
 after-requires-3 : tie.Need-after-requires-3
 after-requires-3 c κs = search needs
 
--- src/main.rt:275:40
 op-requires-4 : tie.Need-op-requires-4
 op-requires-4 c κs = search needs
 
--- src/main.rt:275:22
 arrival-requires-4 : tie.Need-arrival-requires-4
 arrival-requires-4 c κs = search needs
 
--- src/main.rt:275:5
 after-requires-4 : tie.Need-after-requires-4
 after-requires-4 c κs = search needs
 
--- src/main.rt:270:1
 same-length : tie.Need-same-length
 same-length c = c .before .before .before .before .after4 .kept .1 .0 ∙ c .before .before .before .before .before .before .before .before .before .before .before .before .before .after3 .kept .1 .0 ∙ c .before .before .before .before .before .before .before .before .before .before .before .before .before .before .before .before .before .before .before .before .before .before .after2 .kept .1 .0 ∙ c .before .before .before .before .before .before .before .before .before .before .before .before .before .before .before .before .before .before .before .before .before .before .before .before .before .before .before .before .before .before .before .after .kept .1 .0 ∙ c .before .before .before .before .before .before .before .before .before .before .before .before .before .before .before .before .before .before .before .before .before .before .before .before .before .before .before .before .before .before .before .before .before .before .before .before .before .before .before .before .front .kept .0
 
--- src/main.rt:270:1
 same-length-2 : tie.Need-same-length-2
 same-length-2 c = c .before .before .before .before .after4 .kept .1 .1 .1 .0 ∙ c .before .before .before .before .before .before .before .before .before .before .before .before .before .after3 .kept .1 .1 .1 .0 ∙ c .before .before .before .before .before .before .before .before .before .before .before .before .before .before .before .before .before .before .before .before .before .before .after2 .kept .1 .1 .1 .0 ∙ c .before .before .before .before .before .before .before .before .before .before .before .before .before .before .before .before .before .before .before .before .before .before .before .before .before .before .before .before .before .before .before .after .kept .1 .1 .1 .0 ∙ c .before .before .before .before .before .before .before .before .before .before .before .before .before .before .before .before .before .before .before .before .before .before .before .before .before .before .before .before .before .before .before .before .before .before .before .before .before .before .before .before .front .kept .1 .0
 
--- src/main.rt:270:1
 returns : tie.Need-returns
 returns c = search needs
 

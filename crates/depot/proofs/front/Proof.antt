@@ -10,71 +10,54 @@ use Rattle.depot.proofs.fragment.Reads as fragment-reads
 use Rattle.depot.proofs.op.Reads as op-reads
 use Rattle.engine.proofs.start.Reads as start-reads
 
--- src/main.rt:243:9
 start-requires : tie.Need-start-requires
 start-requires c κs = search needs
 
--- src/main.rt:244:35
 op-requires : tie.Need-op-requires
 op-requires c κs = search needs
 
--- src/main.rt:244:48
 op-requires-2 : tie.Need-op-requires-2
 op-requires-2 c κs = search needs
 
--- src/main.rt:244:61
 op-requires-3 : tie.Need-op-requires-3
 op-requires-3 c κs = search needs
 
--- src/main.rt:244:9
 fragment-requires : tie.Need-fragment-requires
 fragment-requires c κs = search needs
 
--- src/main.rt:245:9
 after-requires : tie.Need-after-requires
 after-requires c κs = search needs
 
--- src/main.rt:255:48
 op-requires-4 : tie.Need-op-requires-4
 op-requires-4 c κs = search needs
 
--- src/main.rt:255:31
 arrival-requires : tie.Need-arrival-requires
 arrival-requires c κs = search needs
 
--- src/main.rt:255:9
 after-requires-2 : tie.Need-after-requires-2
 after-requires-2 c κs = search needs
 
--- src/main.rt:256:33
 op-requires-5 : tie.Need-op-requires-5
 op-requires-5 c κs = search needs
 
--- src/main.rt:256:46
 op-requires-6 : tie.Need-op-requires-6
 op-requires-6 c κs = search needs
 
--- src/main.rt:256:59
 op-requires-7 : tie.Need-op-requires-7
 op-requires-7 c κs = search needs
 
--- src/main.rt:256:9
 fragment-requires-2 : tie.Need-fragment-requires-2
 fragment-requires-2 c κs = search needs
 
--- src/main.rt:257:5
 after-requires-3 : tie.Need-after-requires-3
 after-requires-3 c κs = search needs
 
--- src/main.rt:242:1
 same-length : tie.Need-same-length
 same-length c = c .before .before .before .before .after3 .kept .1 .0 ∙ c .before .before .before .before .before .before .before .before .before .before .before .before .before .before .before .after2 .kept .1 .0 ∙ c .before .before .before .before .before .before .before .before .before .before .before .before .before .before .before .before .before .before .before .before .before .before .before .before .after .kept .1 .0
 
--- src/main.rt:242:1
 same-length-2 : tie.Need-same-length-2
 same-length-2 c = c .before .before .before .before .after3 .kept .1 .1 .1 .0 ∙ c .before .before .before .before .before .before .before .before .before .before .before .before .before .before .before .after2 .kept .1 .1 .1 .0 ∙ c .before .before .before .before .before .before .before .before .before .before .before .before .before .before .before .before .before .before .before .before .before .before .before .before .after .kept .1 .1 .1 .0
 
--- src/main.rt:242:1
 returns : tie.Need-returns
 returns c = search needs
 

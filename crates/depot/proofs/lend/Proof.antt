@@ -8,35 +8,27 @@ use Rattle.depot.proofs.lend.Lts as lts
 use Rattle.depot.proofs.decision.Reads as decision-reads
 use Rattle.depot.proofs.try_call.Reads as try-call-reads
 
--- src/main.rt:372:9
 array-borrow-prefix-cells : tie.Need-array-borrow-prefix-cells
 array-borrow-prefix-cells c = search needs
 
--- src/main.rt:372:9
 slice-aggregate-try-call : tie.Need-slice-aggregate-try-call
 slice-aggregate-try-call c = sym (length-take-le (c .before .before .before .args .many) _ (c .before .before .before .pre .0))
 
--- src/main.rt:373:9
 decision-requires : tie.Need-decision-requires
 decision-requires c κs = search needs
 
--- src/main.rt:374:9
 array-borrow-prefix-room : tie.Need-array-borrow-prefix-room
 array-borrow-prefix-room c = search needs
 
--- src/main.rt:374:9
 slice-aggregate-try-call-2 : tie.Need-slice-aggregate-try-call-2
 slice-aggregate-try-call-2 c = sym (length-take-le (c .before .before .before .before .before .args .much) _ (c .before .before .before .before .before .pre .1))
 
--- src/main.rt:367:5
 try-call-requires : tie.Need-try-call-requires
 try-call-requires c κs = search needs
 
--- src/main.rt:362:1
 same-length : tie.Need-same-length
 same-length c = search needs
 
--- src/main.rt:362:1
 returns : tie.Need-returns
 returns c = search needs
 

@@ -8,51 +8,39 @@ use Rattle.depot.proofs.changed.Reads as changed-reads
 use Rattle.depot.proofs.lend.Reads as lend-reads
 use Rattle.engine.proofs.start.Reads as start-reads
 
--- src/main.rt:380:9
 changed-requires : tie.Need-changed-requires
 changed-requires c κs = search needs
 
--- src/main.rt:381:9
 start-requires : tie.Need-start-requires
 start-requires c κs = search needs
 
--- src/main.rt:382:9
 lend-requires : tie.Need-lend-requires
 lend-requires c κs = search needs
 
--- src/main.rt:383:9
 lend-requires-2 : tie.Need-lend-requires-2
 lend-requires-2 c κs = search needs
 
--- src/main.rt:384:9
 lend-requires-3 : tie.Need-lend-requires-3
 lend-requires-3 c κs = search needs
 
--- src/main.rt:385:9
 lend-requires-4 : tie.Need-lend-requires-4
 lend-requires-4 c κs = search needs
 
--- src/main.rt:386:9
 lend-requires-5 : tie.Need-lend-requires-5
 lend-requires-5 c κs = search needs
 
--- src/main.rt:387:9
 lend-requires-6 : tie.Need-lend-requires-6
 lend-requires-6 c κs = search needs
 
--- src/main.rt:388:9
 lend-requires-7 : tie.Need-lend-requires-7
 lend-requires-7 c κs = search needs
 
--- src/main.rt:389:5
 lend-requires-8 : tie.Need-lend-requires-8
 lend-requires-8 c κs = search needs
 
--- src/main.rt:379:1
 same-length : tie.Need-same-length
 same-length c = c .before .before .lend8 .kept .0 ∙ c .before .before .before .before .before .before .lend7 .kept .0 ∙ c .before .before .before .before .before .before .before .before .before .before .lend6 .kept .0 ∙ c .before .before .before .before .before .before .before .before .before .before .before .before .before .before .lend5 .kept .0 ∙ c .before .before .before .before .before .before .before .before .before .before .before .before .before .before .before .before .before .before .lend4 .kept .0 ∙ c .before .before .before .before .before .before .before .before .before .before .before .before .before .before .before .before .before .before .before .before .before .before .lend3 .kept .0 ∙ c .before .before .before .before .before .before .before .before .before .before .before .before .before .before .before .before .before .before .before .before .before .before .before .before .before .before .lend2 .kept .0 ∙ c .before .before .before .before .before .before .before .before .before .before .before .before .before .before .before .before .before .before .before .before .before .before .before .before .before .before .before .before .before .before .lend .kept .0
 
--- src/main.rt:379:1
 returns : tie.Need-returns
 returns c = search needs
 

@@ -15,96 +15,73 @@ use Rattle.depot.proofs.started.Reads as started-reads
 use Rattle.depot.proofs.unsound.Reads as unsound-reads
 use Rattle.io.proofs.write_all.Reads as write-all-reads
 
--- src/main.rt:405:18
 slice-aggregate-base : tie.Need-slice-aggregate-base
 slice-aggregate-base c = search needs
 
--- src/main.rt:405:30
 slice-aggregate-base-2 : tie.Need-slice-aggregate-base-2
 slice-aggregate-base-2 c = search needs
 
--- src/main.rt:405:9
 base-requires : tie.Need-base-requires
 base-requires c κs = search needs
 
--- src/main.rt:406:21
 slice-aggregate-unsound : tie.Need-slice-aggregate-unsound
 slice-aggregate-unsound c = search needs
 
--- src/main.rt:406:37
 slice-aggregate-unsound-2 : tie.Need-slice-aggregate-unsound-2
 slice-aggregate-unsound-2 c = search needs
 
--- src/main.rt:406:49
 slice-aggregate-unsound-3 : tie.Need-slice-aggregate-unsound-3
 slice-aggregate-unsound-3 c = search needs
 
--- src/main.rt:406:9
 unsound-requires : tie.Need-unsound-requires
 unsound-requires c κs = search needs
 
--- src/main.rt:407:17
 slice-aggregate-odd : tie.Need-slice-aggregate-odd
 slice-aggregate-odd c = search needs
 
--- src/main.rt:407:33
 slice-aggregate-odd-2 : tie.Need-slice-aggregate-odd-2
 slice-aggregate-odd-2 c = search needs
 
--- src/main.rt:407:45
 slice-aggregate-odd-3 : tie.Need-slice-aggregate-odd-3
 slice-aggregate-odd-3 c = search needs
 
--- src/main.rt:407:9
 odd-requires : tie.Need-odd-requires
 odd-requires c κs = search needs
 
--- src/main.rt:408:18
 slice-aggregate-lent : tie.Need-slice-aggregate-lent
 slice-aggregate-lent c = search needs
 
--- src/main.rt:408:9
 lent-requires : tie.Need-lent-requires
 lent-requires c κs = search needs
 
--- src/main.rt:409:21
 slice-aggregate-started : tie.Need-slice-aggregate-started
 slice-aggregate-started c = search needs
 
--- src/main.rt:409:9
 started-requires : tie.Need-started-requires
 started-requires c κs = search needs
 
--- src/main.rt:410:19
 slice-aggregate-fresh : tie.Need-slice-aggregate-fresh
 slice-aggregate-fresh c = search needs
 
--- src/main.rt:410:9
 fresh-requires : tie.Need-fresh-requires
 fresh-requires c κs = search needs
 
--- src/main.rt:411:45
 cast-out : tie.Need-cast-out
 cast-out c = search needs
 
--- src/main.rt:411:38
 array-share-prefix-out : tie.Need-array-share-prefix-out
 array-share-prefix-out c = search needs
 
--- src/main.rt:411:38
 slice-aggregate-write-all : tie.Need-slice-aggregate-write-all
 slice-aggregate-write-all c = let e : length (c .before .before .before .fresh .last .0) ≡ 4096 = c .before .before .before .fresh .kept .0 ∙ c .before .before .before .before .before .before .started .kept .0 ∙ c .before .before .before .before .before .before .before .before .before .lent .kept .0 ∙ c .before .before .before .before .before .before .before .before .before .before .before .before .before .before .odd .kept .0 ∙ c .before .before .before .before .before .before .before .before .before .before .before .before .before .before .before .before .before .before .before .before .before .unsound .kept .0 in
     sym (length-take-le (c .before .before .before .fresh .result) (c .before .before .before .fresh .last .0) (omega (arith, e, c .before .if1 .taken)))
 
--- src/main.rt:411:9
 write-all-requires : tie.Need-write-all-requires
 write-all-requires c κs = search needs
 
--- src/main.rt:401:1
 returns : tie.Need-returns
 returns c = search needs
 
--- src/main.rt:401:1
 returns-2 : tie.Need-returns-2
 returns-2 c = search needs
 

@@ -18,90 +18,69 @@ Inv-loop out₀ from r cells₀ room₀ at₀ i₀ out cells room at i = (length
 abbrev μ-loop : tie.MeasureT-loop
 μ-loop out₀ from r cells₀ room₀ at₀ i₀ out cells room at i = 24 - i
 
--- src/main.rt:514:5
 loop-holds : tie.Need-loop-holds Inv-loop μ-loop
 loop-holds c = (refl, refl, refl)
 
--- src/main.rt:515:17
 mul-c : tie.Need-mul-c Inv-loop μ-loop
 mul-c c = search needs
 
--- src/main.rt:515:17
 array-copy-out-c : tie.Need-array-copy-out-c Inv-loop μ-loop
 array-copy-out-c c = search needs
 
--- src/main.rt:516:13
 case-requires : tie.Need-case-requires Inv-loop μ-loop
 case-requires c κs = search needs
 
--- src/main.rt:517:9
 refill-requires : tie.Need-refill-requires Inv-loop μ-loop
 refill-requires c κs = search needs
 
--- src/main.rt:518:40
 cast-try-call : tie.Need-cast-try-call Inv-loop μ-loop
 cast-try-call c = search needs
 
--- src/main.rt:518:40
 add-try-call : tie.Need-add-try-call Inv-loop μ-loop
 add-try-call c = search needs
 
--- src/main.rt:518:66
 decision-requires : tie.Need-decision-requires Inv-loop μ-loop
 decision-requires c κs = search needs
 
--- src/main.rt:518:13
 try-call-requires : tie.Need-try-call-requires Inv-loop μ-loop
 try-call-requires c κs = search needs
 
--- src/main.rt:519:9
 refill-requires-2 : tie.Need-refill-requires-2 Inv-loop μ-loop
 refill-requires-2 c κs = search needs
 
--- src/main.rt:520:36
 cast-try-call-2 : tie.Need-cast-try-call-2 Inv-loop μ-loop
 cast-try-call-2 c = search needs
 
--- src/main.rt:520:36
 add-try-call-2 : tie.Need-add-try-call-2 Inv-loop μ-loop
 add-try-call-2 c = search needs
 
--- src/main.rt:520:62
 decision-requires-2 : tie.Need-decision-requires-2 Inv-loop μ-loop
 decision-requires-2 c κs = search needs
 
--- src/main.rt:520:9
 try-call-requires-2 : tie.Need-try-call-requires-2 Inv-loop μ-loop
 try-call-requires-2 c κs = search needs
 
--- src/main.rt:521:13
 add-i : tie.Need-add-i Inv-loop μ-loop
 add-i c = omega (arith, c .before .before .before .before .before .before .before .before .before .before .before .before .before .before .before .before .before .before .before .before .before .before .before .before .before .before .before .before .before .before .before .before .loop-test .taken)
 
--- src/main.rt:514:5
 loop-less : tie.Need-loop-less Inv-loop μ-loop
 loop-less c = omega (arith, c .before .before .before .before .before .before .before .before .before .before .before .before .before .before .before .before .before .before .before .before .before .before .before .before .before .before .before .before .before .before .before .before .loop-test .taken)
 
--- src/main.rt:514:5
 loop-again : tie.Need-loop-again Inv-loop μ-loop
 loop-again c = let t = c .before .before .before .before .before .before .try-call2 .kept in
     let s = c .before .before .before .before .before .before .before .before .before .before .before .before .before .before .before .before .before .before .before .before .before .try-call .kept in
     let l = c .before .before .before .before .before .before .before .before .before .before .before .before .before .before .before .before .before .before .before .before .before .before .before .before .before .before .before .before .before .before .before .before .before .loop .inv in
     (t .0 ∙ s .0 ∙ l .0, t .1 .1 .1 .1 .0 ∙ c .before .before .before .before .before .before .before .before .before .before .before .before .before .refill2 .kept .0 ∙ s .1 .1 .1 .1 .0 ∙ c .before .before .before .before .before .before .before .before .before .before .before .before .before .before .before .before .before .before .before .before .before .before .before .before .before .before .before .before .refill .kept .0 ∙ l .1, t .1 .1 .1 .1 .1 .1 .0 ∙ s .1 .1 .1 .1 .1 .1 .0 ∙ l .2)
 
--- src/main.rt:511:1
 same-length : tie.Need-same-length Inv-loop μ-loop
 same-length c = search needs
 
--- src/main.rt:511:1
 same-length-2 : tie.Need-same-length-2 Inv-loop μ-loop
 same-length-2 c = search needs
 
--- src/main.rt:511:1
 same-length-3 : tie.Need-same-length-3 Inv-loop μ-loop
 same-length-3 c = search needs
 
--- src/main.rt:511:1
 returns : tie.Need-returns Inv-loop μ-loop
 returns c = search needs
 

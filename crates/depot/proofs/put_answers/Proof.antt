@@ -15,35 +15,27 @@ Inv-loop out₀ from room count at₀ i₀ out at i = length out ≡ length out�
 abbrev μ-loop : tie.MeasureT-loop
 μ-loop out₀ from room count at₀ i₀ out at i = count - i
 
--- src/main.rt:191:5
 loop-holds : tie.Need-loop-holds Inv-loop μ-loop
 loop-holds c = refl
 
--- src/main.rt:192:13
 put-a-requires : tie.Need-put-a-requires Inv-loop μ-loop
 put-a-requires c κs = search needs
 
--- src/main.rt:193:9
 place-requires : tie.Need-place-requires Inv-loop μ-loop
 place-requires c κs = search needs
 
--- src/main.rt:194:13
 add-i : tie.Need-add-i Inv-loop μ-loop
 add-i c = search needs
 
--- src/main.rt:191:5
 loop-less : tie.Need-loop-less Inv-loop μ-loop
 loop-less c = search needs
 
--- src/main.rt:191:5
 loop-again : tie.Need-loop-again Inv-loop μ-loop
 loop-again c = c .before .before .before .put-a .kept .0 ∙ c .before .before .before .before .before .before .loop .inv
 
--- src/main.rt:188:1
 same-length : tie.Need-same-length Inv-loop μ-loop
 same-length c = search needs
 
--- src/main.rt:188:1
 returns : tie.Need-returns Inv-loop μ-loop
 returns c = search needs
 

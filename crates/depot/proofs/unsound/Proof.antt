@@ -16,65 +16,50 @@ Inv-loop out₀ from r cells₀ room₀ at₀ i₀ out cells room at i = (length
 abbrev μ-loop : tie.MeasureT-loop
 μ-loop out₀ from r cells₀ room₀ at₀ i₀ out cells room at i = 39 - i
 
--- src/main.rt:494:5
 loop-holds : tie.Need-loop-holds Inv-loop μ-loop
 loop-holds c = (refl, refl, refl)
 
--- src/main.rt:495:17
 mul-c : tie.Need-mul-c Inv-loop μ-loop
 mul-c c = search needs
 
--- src/main.rt:495:17
 array-copy-out-c : tie.Need-array-copy-out-c Inv-loop μ-loop
 array-copy-out-c c = search needs
 
--- src/main.rt:499:13
 cast-try-call : tie.Need-cast-try-call Inv-loop μ-loop
 cast-try-call c = search needs
 
--- src/main.rt:499:13
 add-try-call : tie.Need-add-try-call Inv-loop μ-loop
 add-try-call c = search needs
 
--- src/main.rt:500:13
 case-requires : tie.Need-case-requires Inv-loop μ-loop
 case-requires c κs = search needs
 
--- src/main.rt:502:13
 decision-requires : tie.Need-decision-requires Inv-loop μ-loop
 decision-requires c κs = search needs
 
--- src/main.rt:496:9
 try-call-requires : tie.Need-try-call-requires Inv-loop μ-loop
 try-call-requires c κs = search needs
 
--- src/main.rt:505:13
 add-i : tie.Need-add-i Inv-loop μ-loop
 add-i c = search needs
 
--- src/main.rt:494:5
 loop-less : tie.Need-loop-less Inv-loop μ-loop
 loop-less c = search needs
 
--- src/main.rt:494:5
 loop-again : tie.Need-loop-again Inv-loop μ-loop
 loop-again c = let t = c .before .before .before .before .before .before .try-call .kept in
     let l = c .before .before .before .before .before .before .before .before .before .before .before .before .before .before .loop .inv in
     (t .0 ∙ l .0, t .1 .1 .1 .1 .0 ∙ l .1, t .1 .1 .1 .1 .1 .1 .0 ∙ l .2)
 
--- src/main.rt:491:1
 same-length : tie.Need-same-length Inv-loop μ-loop
 same-length c = search needs
 
--- src/main.rt:491:1
 same-length-2 : tie.Need-same-length-2 Inv-loop μ-loop
 same-length-2 c = search needs
 
--- src/main.rt:491:1
 same-length-3 : tie.Need-same-length-3 Inv-loop μ-loop
 same-length-3 c = search needs
 
--- src/main.rt:491:1
 returns : tie.Need-returns Inv-loop μ-loop
 returns c = search needs
 

@@ -8,36 +8,29 @@ use Rattle.engine.proofs.accept_abort.Lts as lts
 use Rattle.engine.proofs.queues.abort.Reads as abort-reads
 use Rattle.engine.proofs.queues.drain.Reads as drain-reads
 
--- src/lib.rt:97:9
 abort-requires : tie.Need-abort-requires
 abort-requires c κs = let a = c .before .before .before .before .before .before .before .before .args in
     let p = c .before .before .before .before .before .before .before .before .pre in
     (fair-of (a .scheme) (a .live .now) (a .runs .now) (a .undo .now) (a .room .now) (a .cells .now) (a .c) (a .event) (p .0 .0) (p .0 .1), some-uncommitted (a .scheme) (a .live .now) (a .runs .now) (a .undo .now) (a .room .now) (a .cells .now) (a .c) (a .event) (p .0 .0) (p .0 .1) (ne-eqb (a .event .kind) 1 (p .1 .0)))
 
--- src/lib.rt:98:5
 drain-requires : tie.Need-drain-requires
 drain-requires c κs = let a = c .before .before .before .before .before .before .before .before .before .before .before .before .before .before .before .before .before .before .before .args in
     let p = c .before .before .before .before .before .before .before .before .before .before .before .before .before .before .before .before .before .before .before .pre in
     let s = c .before .before .before .before .before .before .before .before .before .before .abort in
     abort-begun (a .scheme) (a .live .now) (a .runs .now) (a .undo .now) (a .room .now) (a .cells .now) (a .c) (a .event) (p .0 .0) (p .0 .1) (ne-eqb (a .event .kind) 1 (p .1 .0)) (ne-eqb (a .event .kind) 2 (p .1 .1)) (s .last .0) (s .last .1 .0) (s .last .1 .1 .0) (s .result) (s .ensures .1) (s .ensures .0) .small
 
--- src/lib.rt:91:1
 same-length : tie.Need-same-length
 same-length c = search needs
 
--- src/lib.rt:91:1
 same-length-2 : tie.Need-same-length-2
 same-length-2 c = search needs
 
--- src/lib.rt:91:1
 same-length-3 : tie.Need-same-length-3
 same-length-3 c = search needs
 
--- src/lib.rt:91:1
 same-length-4 : tie.Need-same-length-4
 same-length-4 c = search needs
 
--- src/lib.rt:91:1
 returns : tie.Need-returns
 returns c = let a = c .before .before .before .before .before .before .before .before .before .before .before .before .before .before .before .before .before .before .before .before .before .before .before .before .before .before .before .before .args in
     let p = c .before .before .before .before .before .before .before .before .before .before .before .before .before .before .before .before .before .before .before .before .before .before .before .before .before .before .before .before .pre in

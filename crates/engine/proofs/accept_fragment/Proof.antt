@@ -11,17 +11,14 @@ use Rattle.engine.proofs.queues.continue_front.Reads as continue-front-
 use Rattle.engine.proofs.queues.drain.Reads as drain-reads
 use Rattle.refusals.proofs.is_front.Reads as is-front-reads
 
--- src/lib.rt:71:8
 is-front-requires : tie.Need-is-front-requires
 is-front-requires c κs = search needs
 
--- src/lib.rt:72:13
 continue-front-requires : tie.Need-continue-front-requires
 continue-front-requires c κs = let a = c .before .before .before .before .before .before .before .before .before .before .before .before .before .before .args in
     let p = c .before .before .before .before .before .before .before .before .before .before .before .before .before .before .pre in
     (fair-of (a .scheme) (a .live .now) (a .runs .now) (a .undo .now) (a .room .now) (a .cells .now) (a .c) (a .event) (p .0 .0) (p .0 .1), front-some (a .c .uncommitted) (a .live .now) (a .event .number) (sym (c .before .before .before .before .before .before .is-front .ensures) ∙ c .before .before .before .before .before .if1 .taken))
 
--- src/lib.rt:73:9
 drain-requires : tie.Need-drain-requires
 drain-requires c κs = let a = c .before .before .before .before .before .before .before .before .before .before .before .before .before .before .before .before .before .before .before .before .before .before .before .before .before .before .before .before .args in
     let p = c .before .before .before .before .before .before .before .before .before .before .before .before .before .before .before .before .before .before .before .before .before .before .before .before .before .before .before .before .pre in
@@ -29,27 +26,21 @@ drain-requires c κs = let a = c .before .before .before .before .before .before
     continue-begun (a .scheme) (a .live .now) (a .runs .now) (a .undo .now) (a .room .now) (a .cells .now) (a .c) (a .event) (p .0 .0) (p .0 .1) (eq-eqb (a .event .kind) 1 (p .1)) (sym (c .before .before .before .before .before .before .before .before .before .before .before .before .before .before .before .before .before .before .before .before .is-front .ensures) ∙ c .before .before .before .before .before .before .before .before .before .before .before .before .before .before .before .before .before .before .before .if1 .taken)
     (s .last .1 .0) (s .last .1 .1 .0) (s .last .1 .1 .1 .1 .0) (s .last .1 .1 .1 .0) (s .result) (s .ensures .1) (s .ensures .0) .small
 
--- src/lib.rt:73:9
 same-length : tie.Need-same-length
 same-length c = search needs
 
--- src/lib.rt:73:9
 same-length-2 : tie.Need-same-length-2
 same-length-2 c = search needs
 
--- src/lib.rt:73:9
 same-length-3 : tie.Need-same-length-3
 same-length-3 c = search needs
 
--- src/lib.rt:73:9
 same-length-4 : tie.Need-same-length-4
 same-length-4 c = search needs
 
--- src/lib.rt:73:9
 same-length-5 : tie.Need-same-length-5
 same-length-5 c = search needs
 
--- src/lib.rt:73:9
 returns : tie.Need-returns
 returns c = let a = c .before .before .before .before .before .before .before .before .before .before .before .before .before .before .before .before .before .before .before .before .before .before .before .before .before .before .before .before .before .before .before .before .before .before .before .before .before .args in
     let p = c .before .before .before .before .before .before .before .before .before .before .before .before .before .before .before .before .before .before .before .before .before .before .before .before .before .before .before .before .before .before .before .before .before .before .before .before .before .pre in
@@ -62,13 +53,11 @@ returns c = let a = c .before .before .before .before .before .before .before .b
       d .ensures .0 .live,
     )
 
--- src/lib.rt:75:9
 join-waiting-requires : tie.Need-join-waiting-requires
 join-waiting-requires c κs = let a = c .before .before .before .before .before .before .before .before .before .before .args in
     let p = c .before .before .before .before .before .before .before .before .before .before .pre in
     fair-of (a .scheme) (a .live .now) (a .runs .now) (a .undo .now) (a .room .now) (a .cells .now) (a .c) (a .event) (p .0 .0) (p .0 .1) .live
 
--- src/lib.rt:76:5
 drain-requires-2 : tie.Need-drain-requires-2
 drain-requires-2 c κs = let a = c .before .before .before .before .before .before .before .before .before .before .before .before .before .before .before .before .before .before .args in
     let p = c .before .before .before .before .before .before .before .before .before .before .before .before .before .before .before .before .before .before .pre in
@@ -76,27 +65,21 @@ drain-requires-2 c κs = let a = c .before .before .before .before .before .befo
     join-begun (a .scheme) (a .live .now) (a .runs .now) (a .undo .now) (a .room .now) (a .cells .now) (a .c) (a .event) (p .0 .0) (p .0 .1) (eq-eqb (a .event .kind) 1 (p .1)) (sym (c .before .before .before .before .before .before .before .before .before .before .is-front .ensures) ∙ c .before .before .before .before .before .before .before .before .before .if1 .left)
     (s .last .0) (s .result) (s .ensures .1) (s .ensures .0) .small
 
--- src/lib.rt:63:1
 same-length-6 : tie.Need-same-length-6
 same-length-6 c = search needs
 
--- src/lib.rt:63:1
 same-length-7 : tie.Need-same-length-7
 same-length-7 c = search needs
 
--- src/lib.rt:63:1
 same-length-8 : tie.Need-same-length-8
 same-length-8 c = search needs
 
--- src/lib.rt:63:1
 same-length-9 : tie.Need-same-length-9
 same-length-9 c = search needs
 
--- src/lib.rt:63:1
 same-length-10 : tie.Need-same-length-10
 same-length-10 c = search needs
 
--- src/lib.rt:63:1
 returns-2 : tie.Need-returns-2
 returns-2 c = let a = c .before .before .before .before .before .before .before .before .before .before .before .before .before .before .before .before .before .before .before .before .before .before .before .before .before .before .before .args in
     let p = c .before .before .before .before .before .before .before .before .before .before .before .before .before .before .before .before .before .before .before .before .before .before .before .before .before .before .before .pre in

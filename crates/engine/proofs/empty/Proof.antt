@@ -5,7 +5,6 @@ use Rattle.engine.proofs.empty.Tie as tie
 use Rattle.engine.proofs.empty.Reads as reads
 use Rattle.engine.proofs.empty.Lts as lts
 
--- src/lib.rt:236:1
 returns : tie.Need-returns
 returns c = empty-packed (c .args .count)
 

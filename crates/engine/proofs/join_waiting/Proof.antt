@@ -13,39 +13,30 @@ use Rattle.engine.proofs.queues.Counts.waits.Reads as waits-reads
 use Rattle.record.proofs.lay.Reads as lay-reads
 use Rattle.record.proofs.row_words.Reads as row-words-reads
 
--- src/lib.rt:74:13
 row-words-requires : tie.Need-row-words-requires
 row-words-requires c κs = search needs
 
--- src/lib.rt:75:29
 add-lay : tie.Need-add-lay
 add-lay c = search needs
 
--- src/lib.rt:75:29
 add-lay-2 : tie.Need-add-lay-2
 add-lay-2 c = search needs
 
--- src/lib.rt:75:23
 mul-lay : tie.Need-mul-lay
 mul-lay c = search needs
 
--- src/lib.rt:75:67
 slice-aggregate-lay : tie.Need-slice-aggregate-lay
 slice-aggregate-lay c = search needs
 
--- src/lib.rt:75:5
 lay-requires : tie.Need-lay-requires
 lay-requires c κs = search needs
 
--- src/lib.rt:76:5
 waits-requires : tie.Need-waits-requires
 waits-requires c κs = search needs
 
--- src/lib.rt:69:1
 same-length : tie.Need-same-length
 same-length c = search needs
 
--- src/lib.rt:69:1
 returns : tie.Need-returns
 returns c = let a = c .before .before .before .before .before .before .before .before .before .before .args in
     let w = c .before .before .before .before .before .before .before .before .row-words .result in

@@ -5,15 +5,12 @@ use Rattle.engine.proofs.largest_after.Tie as tie
 use Rattle.engine.proofs.largest_after.Reads as reads
 use Rattle.engine.proofs.largest_after.Lts as lts
 
--- src/lib.rt:117:1
 returns : tie.Need-returns
 returns c = rw (eq-eqb (c .before .before .args .kind) 1 (c .before .if1 .taken), lt-ltb (c .before .before .args .largest) (c .before .before .args .number) (c .if2 .taken))
 
--- src/lib.rt:117:1
 returns-2 : tie.Need-returns-2
 returns-2 c = rw (eq-eqb (c .before .before .args .kind) 1 (c .before .if1 .taken), le-ltb (c .before .before .args .largest) (c .before .before .args .number) (c .if2 .left))
 
--- src/lib.rt:117:1
 returns-3 : tie.Need-returns-3
 returns-3 c = rw (ne-eqb (c .before .args .kind) 1 (c .if1 .left))
 

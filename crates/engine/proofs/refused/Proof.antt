@@ -8,19 +8,15 @@ use Rattle.engine.proofs.refused.Lts as lts
 use Rattle.refusals.proofs.refused_row.Reads as refused-row-reads
 use Rattle.soundness.proofs.is_sound.Reads as is-sound-reads
 
--- src/lib.rt:38:8
 is-sound-requires : tie.Need-is-sound-requires
 is-sound-requires c κs = search needs
 
--- src/lib.rt:39:9
 refused-row-requires : tie.Need-refused-row-requires
 refused-row-requires c κs = search needs
 
--- src/lib.rt:35:1
 returns : tie.Need-returns
 returns c σ = c .refused-row .ensures σ ∙ refused-sound _ _ (sym (c .before .before .is-sound .ensures) ∙ c .before .if1 .taken)
 
--- src/lib.rt:35:1
 returns-2 : tie.Need-returns-2
 returns-2 c σ = refused-unsound _ _ (sym (c .before .is-sound .ensures) ∙ c .if1 .left)
 

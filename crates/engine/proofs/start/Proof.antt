@@ -12,11 +12,9 @@ use Rattle.engine.proofs.start.Reads as reads
 use Rattle.engine.proofs.start.Lts as lts
 use Rattle.engine.proofs.empty.Reads as empty-reads
 
--- src/lib.rt:257:19
 empty-requires : tie.Need-empty-requires
 empty-requires c κs = search needs
 
--- src/lib.rt:255:9
 returns : tie.Need-returns
 returns c = let n = c .before .before .args .count in
     started-by true n (c .empty .result)
@@ -25,11 +23,9 @@ returns c = let n = c .before .before .args .count in
       | inr t ↦ none-or-many n true (t .0 .left) (t .1 .taken)
     ]) (c .empty .ensures)
 
--- src/lib.rt:262:15
 empty-requires-2 : tie.Need-empty-requires-2
 empty-requires-2 c κs = search needs
 
--- src/lib.rt:251:1
 returns-2 : tie.Need-returns-2
 returns-2 c = let n = c .before .before .before .args .count in
     started-by false n (c .empty2 .result) (none-or-many n false (c .before .before .if1 .left) (c .before .if2 .left)) (c .empty2 .ensures)

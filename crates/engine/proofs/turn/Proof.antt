@@ -18,28 +18,22 @@ use Rattle.engine.proofs.refused.Reads as refused-reads
 use Rattle.record.proofs.shift.Reads as shift-reads
 use Rattle.tidy.proofs.tidy.Reads as tidy-reads
 
--- src/lib.rt:203:9
 refused-requires : tie.Need-refused-requires
 refused-requires c κs = search needs
 
--- src/lib.rt:216:9
 same-length : tie.Need-same-length
 same-length c = search needs
 
--- src/lib.rt:216:9
 same-length-2 : tie.Need-same-length-2
 same-length-2 c = search needs
 
--- src/lib.rt:216:9
 returns : tie.Need-returns
 returns c = let a = c .before .before .before .before .before .before .before .before .before .before .before .before .args in
     refused-call (a .scheme) (recordBy (a .count) (a .largest) (a .uncommitted) (a .waiting) (a .live .now) (a .runs .now) (a .undo .now)) (a .event) (a .cells .now) (a .room .now) (c .before .refused .result) (c .before .refused .ensures (a .scheme)) (c .if1 .taken)
 
--- src/lib.rt:224:9
 tidy-requires : tie.Need-tidy-requires
 tidy-requires c κs = search needs
 
--- src/lib.rt:232:9
 accept-requires : tie.Need-accept-requires
 accept-requires c κs = let a = c .before .before .before .before .before .before .before .before .before .before .before .before .before .before .before .before .before .before .before .before .before .args in
     let r = recordBy (a .count) (a .largest) (a .uncommitted) (a .waiting) (a .live .now) (a .runs .now) (a .undo .now) in
@@ -51,39 +45,30 @@ accept-requires c κs = let a = c .before .before .before .before .before .befor
           (search (unmapped, c .before .before .before .before .before .before .before .before .before .before .before .before .before .before .before .before .before .before .before .before .before .good .1 .1 .1 .1 .1 .1 .1 .1 .1 .0, needs)),
     )
 
--- src/lib.rt:235:9
 mul-shift : tie.Need-mul-shift
 mul-shift c = search needs
 
--- src/lib.rt:236:15
 add-shift : tie.Need-add-shift
 add-shift c = search needs
 
--- src/lib.rt:236:15
 add-shift-2 : tie.Need-add-shift-2
 add-shift-2 c = search needs
 
--- src/lib.rt:236:9
 mul-shift-2 : tie.Need-mul-shift-2
 mul-shift-2 c = search needs
 
--- src/lib.rt:233:5
 shift-requires : tie.Need-shift-requires
 shift-requires c κs = search needs
 
--- src/lib.rt:241:18
 largest-after-requires : tie.Need-largest-after-requires
 largest-after-requires c κs = search needs
 
--- src/lib.rt:187:1
 same-length-3 : tie.Need-same-length-3
 same-length-3 c = search needs
 
--- src/lib.rt:187:1
 same-length-4 : tie.Need-same-length-4
 same-length-4 c = search needs
 
--- src/lib.rt:187:1
 returns-2 : tie.Need-returns-2
 unfolding accept-requires
 returns-2 c = let a = c .before .before .before .before .before .before .before .before .before .before .before .before .before .before .before .before .before .before .before .before .before .before .before .before .before .before .before .before .before .before .before .before .args in

@@ -9,85 +9,68 @@ use Rattle.operations.proofs.apply.Tie as tie
 use Rattle.operations.proofs.apply.Reads as reads
 use Rattle.operations.proofs.apply.Lts as lts
 
--- src/lib.rt:65:16
 sub-if1 : tie.Need-sub-if1
 sub-if1 c = search needs
 
--- src/lib.rt:68:29
 add-t8 : tie.Need-add-t8
 add-t8 c = search needs
 
--- src/lib.rt:58:1
 returns : tie.Need-returns
 unfolding meaning
 returns c = rw (c .match .keys1)
 
--- src/lib.rt:58:1
 returns-2 : tie.Need-returns-2
 unfolding meaning
 returns-2 c = rw (c .match .keys2)
 
--- src/lib.rt:58:1
 returns-3 : tie.Need-returns-3
 unfolding meaning
 returns-3 c = simp (c .before .match .keys3, lt-ltb TOP (c .before .before .args .x + c .before .before .args .v) (omega arith))
 
--- src/lib.rt:58:1
 returns-4 : tie.Need-returns-4
 unfolding meaning
 returns-4 c = simp (c .before .match .keys3, le-ltb TOP (c .before .before .args .x + c .before .before .args .v) (omega arith))
 
--- src/lib.rt:58:1
 returns-5 : tie.Need-returns-5
 unfolding meaning
 returns-5 c = simp (c .before .match .keys4, lt-ltb _ _ (c .if2 .taken))
 
--- src/lib.rt:58:1
 returns-6 : tie.Need-returns-6
 unfolding meaning
 returns-6 c = simp (c .before .match .keys4, le-ltb _ _ (c .if2 .left))
 
--- src/lib.rt:58:1
 returns-7 : tie.Need-returns-7
 unfolding meaning
 returns-7 c = simp (c .before .match .keys5, lt-ltb _ _ (c .if3 .taken))
 
--- src/lib.rt:58:1
 returns-8 : tie.Need-returns-8
 unfolding meaning
 returns-8 c = simp (c .before .match .keys5, le-ltb _ _ (c .if3 .left))
 
--- src/lib.rt:58:1
 returns-9 : tie.Need-returns-9
 unfolding meaning
 returns-9 c = simp (c .before .match .keys6, eq-eqb _ _ (c .if4 .taken))
 
--- src/lib.rt:58:1
 returns-10 : tie.Need-returns-10
 unfolding meaning
 returns-10 c = simp (c .before .match .keys6, ne-eqb _ _ (c .if4 .left))
 
--- src/lib.rt:58:1
 returns-11 : tie.Need-returns-11
 unfolding meaning
 returns-11 c = simp (c .before .match .keys7, lt-ltb _ _ (c .if5 .taken))
 
--- src/lib.rt:58:1
 returns-12 : tie.Need-returns-12
 unfolding meaning
 returns-12 c = simp (c .before .match .keys7, le-ltb _ _ (c .if5 .left))
 
--- src/lib.rt:58:1
 returns-13 : tie.Need-returns-13
 unfolding meaning
 returns-13 c = simp (c .before .match .keys8, lt-ltb _ _ (c .if6 .taken))
 
--- src/lib.rt:58:1
 returns-14 : tie.Need-returns-14
 unfolding meaning
 returns-14 c = simp (c .before .match .keys8, le-ltb _ _ (c .if6 .left))
 
--- src/lib.rt:58:1
 returns-15 : tie.Need-returns-15
 unfolding meaning
 returns-15 c = simp (

@@ -11,29 +11,23 @@ use Rattle.operations.proofs.continue_fragment.Lts as lts
 use Rattle.operations.proofs.run_fragment.Reads as run-fragment-reads
 use Rattle.operations.proofs.undo.Reads as undo-reads
 
--- src/lib.rt:254:9
 run-fragment-requires : tie.Need-run-fragment-requires
 run-fragment-requires c κs = search needs
 
--- src/lib.rt:256:9
 same-length : tie.Need-same-length
 same-length c = search needs
 
--- src/lib.rt:256:9
 returns : tie.Need-returns
 returns c = let a = c .before .before .before .before .before .before .before .before .args in
     let r = c .before .before .before .before .run-fragment in
     (r .ensures .0, later-fine (a .f) (a .cells .now) (entriesOf (a .earlier .now) 0 (a .count)) (r .result) (r .ensures .0) (c .if1 .taken) _ (r .ensures .1))
 
--- src/lib.rt:258:5
 undo-requires : tie.Need-undo-requires
 undo-requires c κs = search needs
 
--- src/lib.rt:250:1
 same-length-2 : tie.Need-same-length-2
 same-length-2 c = search needs
 
--- src/lib.rt:250:1
 returns-2 : tie.Need-returns-2
 returns-2 c = let a = c .before .before .before .before .before .before .before .before .before .before .before .before .args in
     let r = c .before .before .before .before .before .before .before .before .run-fragment in

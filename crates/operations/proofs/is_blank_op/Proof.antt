@@ -5,15 +5,12 @@ use Rattle.operations.proofs.is_blank_op.Tie as tie
 use Rattle.operations.proofs.is_blank_op.Reads as reads
 use Rattle.operations.proofs.is_blank_op.Lts as lts
 
--- src/lib.rt:268:9
 returns : tie.Need-returns
 returns c = simp (ne-eqb _ 0 (c .if1 .taken))
 
--- src/lib.rt:271:9
 returns-2 : tie.Need-returns-2
 returns-2 c = simp (eq-eqb _ 0 (c .before .before .if1 .left), ne-eqb _ 0 (c .if2 .taken))
 
--- src/lib.rt:264:1
 returns-3 : tie.Need-returns-3
 returns-3 c = rw (eq-eqb (c .before .before .before .before .before .args .o .code) 0 (c .before .before .before .if1 .left), eq-eqb (c .before .before .before .before .before .args .o .cell) 0 (c .before .if2 .left))
 

@@ -14,49 +14,40 @@ use Rattle.operations.proofs.is_formed_kind.Reads as is-formed-kind-rea
 use Rattle.operations.proofs.ops_blank.Reads as ops-blank-reads
 use Rattle.operations.proofs.ops_formed.Reads as ops-formed-reads
 
--- src/lib.rt:360:9
 returns : tie.Need-returns
 unfolding formed operations
 returns c = rw (lt-leb 1 ((c .before .args .f) .count) (c .if1 .taken))
 
--- src/lib.rt:363:9
 returns-2 : tie.Need-returns-2
 unfolding formed operations
 returns-2 c = rw (le-leb 1 ((c .before .before .args .f) .count) (c .before .if1 .left), lt-leb ((c .before .before .args .f) .count) mostOperations (c .if2 .taken))
 
--- src/lib.rt:366:9
 ops-formed-requires : tie.Need-ops-formed-requires
 ops-formed-requires c κs = search needs
 
--- src/lib.rt:367:9
 returns-3 : tie.Need-returns-3
 unfolding formed operations
 returns-3 c = let o : every formedOp (operations (c .before .before .before .before .before .args .f)) ≡ false = sym (c .before .ops-formed .ensures) ∙ not-true (c .before .ops-formed .result) (c .if3 .taken) in
     rw (le-leb 1 ((c .before .before .before .before .before .args .f) .count) (c .before .before .before .before .if1 .left), le-leb ((c .before .before .before .before .before .args .f) .count) mostOperations (c .before .before .before .if2 .left), o)
 
--- src/lib.rt:369:9
 ops-blank-requires : tie.Need-ops-blank-requires
 ops-blank-requires c κs = search needs
 
--- src/lib.rt:370:9
 returns-4 : tie.Need-returns-4
 unfolding formed operations
 returns-4 c = let o : every formedOp (operations (c .before .before .before .before .before .before .before .args .f)) ≡ true = sym (c .before .before .before .ops-formed .ensures) ∙ not-false (c .before .before .before .ops-formed .result) (c .before .before .if3 .left) in
     let k : every blankOp (drop ((c .before .before .before .before .before .before .before .args .f) .count) ((c .before .before .before .before .before .before .before .args .f) .row)) ≡ false = sym (c .before .ops-blank .ensures) ∙ not-true (c .before .ops-blank .result) (c .if4 .taken) in
     rw (le-leb 1 ((c .before .before .before .before .before .before .before .args .f) .count) (c .before .before .before .before .before .before .if1 .left), le-leb ((c .before .before .before .before .before .before .before .args .f) .count) mostOperations (c .before .before .before .before .before .if2 .left), o, k)
 
--- src/lib.rt:373:9
 returns-5 : tie.Need-returns-5
 unfolding formed operations
 returns-5 c = let o : every formedOp (operations (c .before .before .before .before .before .before .before .before .before .args .f)) ≡ true = sym (c .before .before .before .before .before .ops-formed .ensures) ∙ not-false (c .before .before .before .before .before .ops-formed .result) (c .before .before .before .before .if3 .left) in
     let k : every blankOp (drop ((c .before .before .before .before .before .before .before .before .before .args .f) .count) ((c .before .before .before .before .before .before .before .before .before .args .f) .row)) ≡ true = sym (c .before .before .before .ops-blank .ensures) ∙ not-false (c .before .before .before .ops-blank .result) (c .before .before .if4 .left) in
     rw (le-leb 1 ((c .before .before .before .before .before .before .before .before .before .args .f) .count) (c .before .before .before .before .before .before .before .before .if1 .left), le-leb ((c .before .before .before .before .before .before .before .before .before .args .f) .count) mostOperations (c .before .before .before .before .before .before .before .if2 .left), o, k, lt-leb ((c .before .before .before .before .before .before .before .before .before .args .f) .flags) 3 (c .if5 .taken))
 
--- src/lib.rt:375:5
 is-formed-kind-requires : tie.Need-is-formed-kind-requires
 is-formed-kind-requires c κs = search needs
 
--- src/lib.rt:355:1
 returns-6 : tie.Need-returns-6
 unfolding formed operations
 returns-6 c = let o : every formedOp (operations (c .before .before .before .before .before .before .before .before .before .before .args .f)) ≡ true = sym (c .before .before .before .before .before .before .ops-formed .ensures) ∙ not-false (c .before .before .before .before .before .before .ops-formed .result) (c .before .before .before .before .before .if3 .left) in

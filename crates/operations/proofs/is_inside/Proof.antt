@@ -7,11 +7,9 @@ use Rattle.operations.proofs.is_inside.Reads as reads
 use Rattle.operations.proofs.is_inside.Lts as lts
 use Rattle.operations.proofs.ops_inside.Reads as ops-inside-reads
 
--- src/lib.rt:400:5
 ops-inside-requires : tie.Need-ops-inside-requires
 ops-inside-requires c κs = search needs
 
--- src/lib.rt:396:1
 returns : tie.Need-returns
 unfolding inside operations
 returns c = c .ops-inside .ensures

@@ -5,11 +5,9 @@ use Rattle.operations.proofs.is_known.Tie as tie
 use Rattle.operations.proofs.is_known.Reads as reads
 use Rattle.operations.proofs.is_known.Lts as lts
 
--- src/lib.rt:21:1
 returns : tie.Need-returns
 returns c = rw (le-leb 1 (c .before .args .code) (c .if1 .taken))
 
--- src/lib.rt:21:1
 returns-2 : tie.Need-returns-2
 returns-2 c = rw (lt-leb 1 (c .before .args .code) (c .if1 .left))
 

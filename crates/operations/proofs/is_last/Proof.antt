@@ -6,7 +6,6 @@ use Rattle.operations.proofs.is_last.Tie as tie
 use Rattle.operations.proofs.is_last.Reads as reads
 use Rattle.operations.proofs.is_last.Lts as lts
 
--- src/lib.rt:244:1
 returns : tie.Need-returns
 unfolding last
 returns c = refl

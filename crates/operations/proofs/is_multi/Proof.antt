@@ -6,7 +6,6 @@ use Rattle.operations.proofs.is_multi.Tie as tie
 use Rattle.operations.proofs.is_multi.Reads as reads
 use Rattle.operations.proofs.is_multi.Lts as lts
 
--- src/lib.rt:238:1
 returns : tie.Need-returns
 unfolding multi
 returns c = refl

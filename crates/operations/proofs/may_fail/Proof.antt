@@ -8,16 +8,13 @@ use Rattle.operations.proofs.may_fail.Tie as tie
 use Rattle.operations.proofs.may_fail.Reads as reads
 use Rattle.operations.proofs.may_fail.Lts as lts
 
--- src/lib.rt:51:9
 array-read-result : tie.Need-array-read-result
 array-read-result c = search needs
 
--- src/lib.rt:47:1
 returns : tie.Need-returns
 unfolding mayFail
 returns c = search needs
 
--- src/lib.rt:47:1
 returns-2 : tie.Need-returns-2
 unfolding mayFail
 returns-2 c = sym (List·getD-eq-default failsRow false (c .if1 .left))

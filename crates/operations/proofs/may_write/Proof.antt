@@ -8,16 +8,13 @@ use Rattle.operations.proofs.may_write.Tie as tie
 use Rattle.operations.proofs.may_write.Reads as reads
 use Rattle.operations.proofs.may_write.Lts as lts
 
--- src/lib.rt:41:9
 array-read-result : tie.Need-array-read-result
 array-read-result c = search needs
 
--- src/lib.rt:37:1
 returns : tie.Need-returns
 unfolding writes
 returns c = search needs
 
--- src/lib.rt:37:1
 returns-2 : tie.Need-returns-2
 unfolding writes
 returns-2 c = sym (List·getD-eq-default writesRow false (c .if1 .left))

@@ -10,48 +10,37 @@ use Rattle.operations.proofs.note.Reads as reads
 use Rattle.operations.proofs.note.Lts as lts
 use Rattle.operations.proofs.may_write.Reads as may-write-reads
 
--- src/lib.rt:175:8
 may-write-requires : tie.Need-may-write-requires
 may-write-requires c κs = search needs
 
--- src/lib.rt:176:13
 mul-row : tie.Need-mul-row
 mul-row c = search needs
 
--- src/lib.rt:176:9
 mul-row-2 : tie.Need-mul-row-2
 mul-row-2 c = search needs
 
--- src/lib.rt:176:9
 element-write-row : tie.Need-element-write-row
 element-write-row c = search needs
 
--- src/lib.rt:177:13
 mul-row-3 : tie.Need-mul-row-3
 mul-row-3 c = search needs
 
--- src/lib.rt:177:13
 add-row : tie.Need-add-row
 add-row c = search needs
 
--- src/lib.rt:177:9
 mul-row-4 : tie.Need-mul-row-4
 mul-row-4 c = search needs
 
--- src/lib.rt:177:9
 element-write-row-2 : tie.Need-element-write-row-2
 element-write-row-2 c = search needs
 
--- src/lib.rt:178:9
 add-result : tie.Need-add-result
 add-result c = search needs
 
--- src/lib.rt:169:1
 returns : tie.Need-returns
 unfolding noteCount noteRow
 returns c = let w : writes (c .before .before .args .o .code) ≡ true = sym (c .before .may-write .ensures) ∙ c .if1 .taken in (rw (w, noteCount), rw (w, noteRow))
 
--- src/lib.rt:169:1
 returns-2 : tie.Need-returns-2
 unfolding noteCount noteRow
 returns-2 c = let w : writes (c .before .before .args .o .code) ≡ false = sym (c .before .may-write .ensures) ∙ c .if1 .left in (rw (w, noteCount), rw (w, noteRow))

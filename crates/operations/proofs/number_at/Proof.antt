@@ -6,19 +6,15 @@ use Rattle.operations.proofs.number_at.Tie as tie
 use Rattle.operations.proofs.number_at.Reads as reads
 use Rattle.operations.proofs.number_at.Lts as lts
 
--- src/lib.rt:115:9
 mul-result : tie.Need-mul-result
 mul-result c = search needs
 
--- src/lib.rt:115:9
 shared-slice-read-result : tie.Need-shared-slice-read-result
 shared-slice-read-result c = search needs
 
--- src/lib.rt:111:1
 returns : tie.Need-returns
 returns c = search needs
 
--- src/lib.rt:111:1
 returns-2 : tie.Need-returns-2
 returns-2 c = sym (List·getD-eq-default (c .before .args .s .now) 0 (c .if1 .left))
 

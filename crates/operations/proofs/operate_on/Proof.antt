@@ -11,39 +11,30 @@ use Rattle.operations.proofs.may_write.Reads as may-write-reads
 use Rattle.operations.proofs.number_at.Reads as number-at-reads
 use Rattle.operations.proofs.put_at.Reads as put-at-reads
 
--- src/lib.rt:141:14
 cast-at : tie.Need-cast-at
 cast-at c = search needs
 
--- src/lib.rt:142:9
 number-at-requires : tie.Need-number-at-requires
 number-at-requires c κs = search needs
 
--- src/lib.rt:143:9
 apply-requires : tie.Need-apply-requires
 apply-requires c κs = search needs
 
--- src/lib.rt:145:21
 enum-known-d : tie.Need-enum-known-d
 enum-known-d c = search needs
 
--- src/lib.rt:146:16
 may-write-requires : tie.Need-may-write-requires
 may-write-requires c κs = search needs
 
--- src/lib.rt:147:17
 put-at-requires : tie.Need-put-at-requires
 put-at-requires c κs = search needs
 
--- src/lib.rt:151:23
 enum-told : tie.Need-enum-told
 enum-told c = search needs
 
--- src/lib.rt:137:1
 same-length : tie.Need-same-length
 same-length c = search needs
 
--- src/lib.rt:137:1
 returns : tie.Need-returns
 returns c = let a = c .before .before .before .before .before .before .before .before .before .before .before .before .before .before .args in
     let n = c .before .before .before .before .before .before .before .before .before .before .number-at in
@@ -54,11 +45,9 @@ returns c = let a = c .before .before .before .before .before .before .before .b
       after-writes (a .o) (now (a .cells)) (n .result) (d .result) (n .ensures) (d .ensures) (y .0 .0) (y .1) (w .result) (w .ensures) (c .before .before .before .before .if1 .taken) _ (c .before .before .put-at .ensures),
     )
 
--- src/lib.rt:137:1
 same-length-2 : tie.Need-same-length-2
 same-length-2 c = search needs
 
--- src/lib.rt:137:1
 returns-2 : tie.Need-returns-2
 returns-2 c = let a = c .before .before .before .before .before .before .before .before .before .before .args in
     let n = c .before .before .before .before .before .before .number-at in
@@ -69,11 +58,9 @@ returns-2 c = let a = c .before .before .before .before .before .before .before 
       after-reads (a .o) (now (a .cells)) (n .result) (d .result) (n .ensures) (d .ensures) (y .0 .0) (y .1) (w .result) (w .ensures) (c .if1 .left),
     )
 
--- src/lib.rt:137:1
 same-length-3 : tie.Need-same-length-3
 same-length-3 c = search needs
 
--- src/lib.rt:137:1
 returns-3 : tie.Need-returns-3
 returns-3 c = let a = c .before .before .before .before .before .before .before .args in
     let n = c .before .before .before .number-at in

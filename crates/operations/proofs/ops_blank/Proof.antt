@@ -24,49 +24,39 @@ Inv-loop from row i₀ i = (i ≤ 8) × (length row ≡ 8) × (every blankOp (dr
 abbrev μ-loop : tie.MeasureT-loop
 μ-loop from row i₀ i = 8 - i
 
--- src/lib.rt:309:9
 places-requires : tie.Need-places-requires Inv-loop μ-loop
 places-requires c κs = search needs
 
--- src/lib.rt:310:5
 loop-holds : tie.Need-loop-holds Inv-loop μ-loop
 loop-holds c = let a = c .before .args in
     let eight : length (a .t1) ≡ 8 = search (unmapped, needs) in
     (omega arith, eight, ap (every blankOp) (ap (λ (m : ℕ). drop m (a .t1)) (c .places .ensures) ∙ drop-places (a .from) (a .t1) eight))
 
--- src/lib.rt:311:17
 mul-o : tie.Need-mul-o Inv-loop μ-loop
 mul-o c = search needs
 
--- src/lib.rt:311:17
 array-copy-out-o : tie.Need-array-copy-out-o Inv-loop μ-loop
 array-copy-out-o c = search needs
 
--- src/lib.rt:312:13
 is-blank-op-requires : tie.Need-is-blank-op-requires Inv-loop μ-loop
 is-blank-op-requires c κs = search needs
 
--- src/lib.rt:313:13
 returns : tie.Need-returns Inv-loop μ-loop
 returns c = let a = c .before .before .before .before .before .before .args in
     let l = c .before .before .before .before .loop in
     walk-stops blankOp (a .t1) _ (l .i) (l .inv .2) (getD (a .t1) (l .i) noOp) (drop-cons (a .t1) (l .i) noOp (omega arith)) (sym (c .before .is-blank-op .ensures) ∙ not-true (c .before .is-blank-op .result) (c .if1 .taken))
 
--- src/lib.rt:315:13
 add-i : tie.Need-add-i Inv-loop μ-loop
 add-i c = search needs
 
--- src/lib.rt:310:5
 loop-less : tie.Need-loop-less Inv-loop μ-loop
 loop-less c = search needs
 
--- src/lib.rt:310:5
 loop-again : tie.Need-loop-again Inv-loop μ-loop
 loop-again c = let a = c .before .before .before .before .before .before .args in
     let l = c .before .before .before .before .loop in
     (omega arith, l .inv .1, walk-on blankOp (a .t1) _ (l .i) (l .inv .2) (getD (a .t1) (l .i) noOp) (drop-cons (a .t1) (l .i) noOp (omega arith)) (sym (c .before .is-blank-op .ensures) ∙ not-false (c .before .is-blank-op .result) (c .if1 .left)))
 
--- src/lib.rt:306:1
 returns-2 : tie.Need-returns-2 Inv-loop μ-loop
 returns-2 c = let a = c .before .before .before .args in
     let l = c .before .loop in

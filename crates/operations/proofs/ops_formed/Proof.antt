@@ -22,51 +22,41 @@ Inv-loop count row n i₀ i = (i ≤ n) × (n ≤ 8) × (length row ≡ 8) × (e
 abbrev μ-loop : tie.MeasureT-loop
 μ-loop count row n i₀ i = n - i
 
--- src/lib.rt:293:9
 places-requires : tie.Need-places-requires Inv-loop μ-loop
 places-requires c κs = search needs
 
--- src/lib.rt:295:5
 loop-holds : tie.Need-loop-holds Inv-loop μ-loop
 loop-holds c = let a = c .before .args in
     let eight : length (a .t1) ≡ 8 = search (unmapped, needs) in
     (search needs, omega arith, eight, ap (every formedOp) (ap (λ (m : ℕ). take m (a .t1)) (c .places .ensures) ∙ take-places (a .count) (a .t1) eight))
 
--- src/lib.rt:296:17
 mul-o : tie.Need-mul-o Inv-loop μ-loop
 mul-o c = search needs
 
--- src/lib.rt:296:17
 array-copy-out-o : tie.Need-array-copy-out-o Inv-loop μ-loop
 array-copy-out-o c = search needs
 
--- src/lib.rt:297:13
 is-formed-op-requires : tie.Need-is-formed-op-requires Inv-loop μ-loop
 is-formed-op-requires c κs = search needs
 
--- src/lib.rt:298:13
 returns : tie.Need-returns Inv-loop μ-loop
 returns c = let a = c .before .before .before .before .before .before .args in
     let l = c .before .before .before .before .loop in
     let n = c .before .before .before .before .before .places .result in
     walk-stops formedOp (take n (a .t1)) _ (l .i) (l .inv .3) (getD (a .t1) (l .i) noOp) (next-of (a .t1) n (l .i) noOp (l .inv .2) (l .inv .1) (c .before .before .before .loop-test .taken)) (sym (c .before .is-formed-op .ensures) ∙ not-true (c .before .is-formed-op .result) (c .if1 .taken))
 
--- src/lib.rt:300:13
 add-i : tie.Need-add-i Inv-loop μ-loop
 add-i c = search needs
 
--- src/lib.rt:295:5
 loop-less : tie.Need-loop-less Inv-loop μ-loop
 loop-less c = search needs
 
--- src/lib.rt:295:5
 loop-again : tie.Need-loop-again Inv-loop μ-loop
 loop-again c = let a = c .before .before .before .before .before .before .args in
     let l = c .before .before .before .before .loop in
     let n = c .before .before .before .before .before .places .result in
     (omega arith, l .inv .1, l .inv .2, walk-on formedOp (take n (a .t1)) _ (l .i) (l .inv .3) (getD (a .t1) (l .i) noOp) (next-of (a .t1) n (l .i) noOp (l .inv .2) (l .inv .1) (c .before .before .before .loop-test .taken)) (sym (c .before .is-formed-op .ensures) ∙ not-false (c .before .is-formed-op .result) (c .if1 .left)))
 
--- src/lib.rt:290:1
 returns-2 : tie.Need-returns-2 Inv-loop μ-loop
 returns-2 c = let a = c .before .before .before .args in
     let l = c .before .loop in

@@ -21,47 +21,38 @@ Inv-loop count cells row n i₀ i = (i ≤ n) × (n ≤ 8) × (length row ≡ 8)
 abbrev μ-loop : tie.MeasureT-loop
 μ-loop count cells row n i₀ i = n - i
 
--- src/lib.rt:324:9
 places-requires : tie.Need-places-requires Inv-loop μ-loop
 places-requires c κs = search needs
 
--- src/lib.rt:326:5
 loop-holds : tie.Need-loop-holds Inv-loop μ-loop
 loop-holds c = let a = c .before .args in
     let eight : length (a .t1) ≡ 8 = search (unmapped, needs) in
     (search needs, omega arith, eight, ap (every (cellBelow (a .cells))) (ap (λ (m : ℕ). take m (a .t1)) (c .places .ensures) ∙ take-places (a .count) (a .t1) eight))
 
--- src/lib.rt:327:17
 mul-o : tie.Need-mul-o Inv-loop μ-loop
 mul-o c = search needs
 
--- src/lib.rt:327:17
 array-copy-out-o : tie.Need-array-copy-out-o Inv-loop μ-loop
 array-copy-out-o c = search needs
 
--- src/lib.rt:329:13
 returns : tie.Need-returns Inv-loop μ-loop
 returns c = let a = c .before .before .before .before .before .before .args in
     let l = c .before .before .before .before .loop in
     let n = c .before .before .before .before .before .places .result in
     walk-stops (cellBelow (a .cells)) (take n (a .t1)) _ (l .i) (l .inv .3) (getD (a .t1) (l .i) noOp) (next-of (a .t1) n (l .i) noOp (l .inv .2) (l .inv .1) (c .before .before .before .loop-test .taken)) (le-ltb _ _ (c .if1 .taken))
 
--- src/lib.rt:331:13
 add-i : tie.Need-add-i Inv-loop μ-loop
 add-i c = search needs
 
--- src/lib.rt:326:5
 loop-less : tie.Need-loop-less Inv-loop μ-loop
 loop-less c = search needs
 
--- src/lib.rt:326:5
 loop-again : tie.Need-loop-again Inv-loop μ-loop
 loop-again c = let a = c .before .before .before .before .before .before .args in
     let l = c .before .before .before .before .loop in
     let n = c .before .before .before .before .before .places .result in
     (omega arith, l .inv .1, l .inv .2, walk-on (cellBelow (a .cells)) (take n (a .t1)) _ (l .i) (l .inv .3) (getD (a .t1) (l .i) noOp) (next-of (a .t1) n (l .i) noOp (l .inv .2) (l .inv .1) (c .before .before .before .loop-test .taken)) (lt-ltb _ _ (c .if1 .left)))
 
--- src/lib.rt:321:1
 returns-2 : tie.Need-returns-2 Inv-loop μ-loop
 returns-2 c = let a = c .before .before .before .args in
     let l = c .before .loop in

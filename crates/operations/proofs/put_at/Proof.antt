@@ -6,23 +6,18 @@ use Rattle.operations.proofs.put_at.Tie as tie
 use Rattle.operations.proofs.put_at.Reads as reads
 use Rattle.operations.proofs.put_at.Lts as lts
 
--- src/lib.rt:126:9
 mul-s : tie.Need-mul-s
 mul-s c = search needs
 
--- src/lib.rt:126:9
 slice-write-s : tie.Need-slice-write-s
 slice-write-s c = search needs
 
--- src/lib.rt:122:1
 same-length : tie.Need-same-length
 same-length c = search needs
 
--- src/lib.rt:122:1
 returns : tie.Need-returns
 returns c = search needs
 
--- src/lib.rt:122:1
 returns-2 : tie.Need-returns-2
 returns-2 c = sym (set-out _ _ _ (c .if1 .left))
 

@@ -24,71 +24,54 @@ Inv-loop cells₀ row count numbers₀ own₀ entries₀ i₀ cells numbers own 
 abbrev μ-loop : tie.MeasureT-loop
 μ-loop cells₀ row count numbers₀ own₀ entries₀ i₀ cells numbers own entries i = count - i
 
--- src/lib.rt:212:9
 places-requires : tie.Need-places-requires Inv-loop μ-loop
 places-requires c κs = search needs
 
--- src/lib.rt:217:5
 loop-holds : tie.Need-loop-holds Inv-loop μ-loop
 loop-holds c = (search needs, omega arith, search (unmapped, needs), refl, refl, refl, going-start (take (c .places .result) (c .before .before .before .args .f .row)) (c .before .before .before .args .cells .now))
 
--- src/lib.rt:218:17
 mul-o : tie.Need-mul-o Inv-loop μ-loop
 mul-o c = search needs
 
--- src/lib.rt:218:17
 array-copy-out-o : tie.Need-array-copy-out-o Inv-loop μ-loop
 array-copy-out-o c = search needs
 
--- src/lib.rt:219:13
 operate-on-requires : tie.Need-operate-on-requires Inv-loop μ-loop
 operate-on-requires c κs = search needs
 
--- src/lib.rt:222:25
 enum-known-d : tie.Need-enum-known-d Inv-loop μ-loop
 enum-known-d c = search needs
 
--- src/lib.rt:223:17
 mul-numbers : tie.Need-mul-numbers Inv-loop μ-loop
 mul-numbers c = search needs
 
--- src/lib.rt:223:17
 array-write-numbers : tie.Need-array-write-numbers Inv-loop μ-loop
 array-write-numbers c = search needs
 
--- src/lib.rt:224:17
 note-requires : tie.Need-note-requires Inv-loop μ-loop
 note-requires c κs = let l = c .before .before .before .before .before .before .before .before .before .before .loop in (l .inv .5, omega (arith, l .inv .6 .few))
 
--- src/lib.rt:227:22
 enum-told : tie.Need-enum-told Inv-loop μ-loop
 enum-told c = search needs
 
--- src/lib.rt:227:29
 slice-aggregate-undo : tie.Need-slice-aggregate-undo Inv-loop μ-loop
 slice-aggregate-undo c = search needs
 
--- src/lib.rt:227:35
 cast-undo : tie.Need-cast-undo Inv-loop μ-loop
 cast-undo c = search needs
 
--- src/lib.rt:227:17
 undo-requires : tie.Need-undo-requires Inv-loop μ-loop
 undo-requires c κs = search needs
 
--- src/lib.rt:229:29
 add-t30 : tie.Need-add-t30 Inv-loop μ-loop
 add-t30 c = search needs
 
--- src/lib.rt:229:28
 cast-t29 : tie.Need-cast-t29 Inv-loop μ-loop
 cast-t29 c = search needs
 
--- src/lib.rt:228:17
 same-length : tie.Need-same-length Inv-loop μ-loop
 same-length c = c .before .before .undo .kept .0 ∙ c .before .before .before .before .before .before .before .before .before .operate-on .kept .0 ∙ c .before .before .before .before .before .before .before .before .before .before .before .before .before .loop .inv .3
 
--- src/lib.rt:228:17
 returns : tie.Need-returns Inv-loop μ-loop
 returns c = let a = c .before .before .before .before .before .before .before .before .before .before .before .before .before .before .before .before .before .args in
     let l = c .before .before .before .before .before .before .before .before .before .before .before .before .before .loop in
@@ -100,15 +83,12 @@ returns c = let a = c .before .before .before .before .before .before .before .b
     let w : _ = e ∙ ap (λ (x : List Op). runFrom 1 x (a .cells .now) [] []) (ap (λ (m : ℕ). take m (a .f .row)) (c .before .before .before .before .before .before .before .before .before .before .before .before .before .before .places .ensures) ∙ operations-of (a .f) (l .inv .2)) in
     (failed-laid (c .before .before .undo .last .0) (l .i + 1) ∙ ap laid w, ap (λ (r : Steps.Ran). r .cells) w)
 
--- src/lib.rt:237:13
 add-i : tie.Need-add-i Inv-loop μ-loop
 add-i c = search needs
 
--- src/lib.rt:217:5
 loop-less : tie.Need-loop-less Inv-loop μ-loop
 loop-less c = search needs
 
--- src/lib.rt:217:5
 loop-again : tie.Need-loop-again Inv-loop μ-loop
 loop-again c = let a = c .before .before .before .before .before .before .before .before .before .before .before .before .before .before .before .args in
     let l = c .before .before .before .before .before .before .before .before .before .before .before .loop in
@@ -128,19 +108,15 @@ loop-again c = let a = c .before .before .before .before .before .before .before
       g,
     )
 
--- src/lib.rt:241:16
 cast-t33 : tie.Need-cast-t33 Inv-loop μ-loop
 cast-t33 c = search needs
 
--- src/lib.rt:243:18
 cast-t35 : tie.Need-cast-t35 Inv-loop μ-loop
 cast-t35 c = search needs
 
--- src/lib.rt:207:1
 same-length-2 : tie.Need-same-length-2 Inv-loop μ-loop
 same-length-2 c = c .before .loop .inv .3
 
--- src/lib.rt:207:1
 returns-2 : tie.Need-returns-2 Inv-loop μ-loop
 returns-2 c = let a = c .before .before .before .before .before .args in
     let l = c .before .loop in

@@ -19,47 +19,36 @@ Inv-loop cells₀ entries count k₀ cells k = (k ≤ count) × (length cells �
 abbrev μ-loop : tie.MeasureT-loop
 μ-loop cells₀ entries count k₀ cells k = k
 
--- src/lib.rt:160:5
 loop-holds : tie.Need-loop-holds Inv-loop μ-loop
 loop-holds c = (search needs, refl, refl)
 
--- src/lib.rt:161:13
 sub-k : tie.Need-sub-k Inv-loop μ-loop
 sub-k c = search needs
 
--- src/lib.rt:162:39
 mul-number-at : tie.Need-mul-number-at Inv-loop μ-loop
 mul-number-at c = search needs
 
--- src/lib.rt:162:13
 number-at-requires : tie.Need-number-at-requires Inv-loop μ-loop
 number-at-requires c κs = search needs
 
--- src/lib.rt:163:38
 mul-number-at-2 : tie.Need-mul-number-at-2 Inv-loop μ-loop
 mul-number-at-2 c = search needs
 
--- src/lib.rt:163:38
 add-number-at : tie.Need-add-number-at Inv-loop μ-loop
 add-number-at c = search needs
 
--- src/lib.rt:163:13
 number-at-requires-2 : tie.Need-number-at-requires-2 Inv-loop μ-loop
 number-at-requires-2 c κs = search needs
 
--- src/lib.rt:164:23
 cast-put-at : tie.Need-cast-put-at Inv-loop μ-loop
 cast-put-at c = search needs
 
--- src/lib.rt:164:9
 put-at-requires : tie.Need-put-at-requires Inv-loop μ-loop
 put-at-requires c κs = search needs
 
--- src/lib.rt:160:5
 loop-less : tie.Need-loop-less Inv-loop μ-loop
 loop-less c = search needs
 
--- src/lib.rt:160:5
 loop-again : tie.Need-loop-again Inv-loop μ-loop
 loop-again c = let l = c .before .before .before .before .before .before .before .loop in (
   omega arith,
@@ -67,11 +56,9 @@ loop-again c = let l = c .before .before .before .before .before .before .before
   undo-turn (c .before .before .before .before .before .before .before .before .before .before .args .entries .now) (l .k) (l .cells) (c .before .before .put-at .last .0) _ _ _ (c .before .before .before .before .before .before .loop-test .taken) (c .before .before .before .before .before .number-at .ensures) (c .before .before .before .before .number-at2 .ensures) (c .before .before .put-at .ensures) (l .inv .2),
 )
 
--- src/lib.rt:156:1
 same-length : tie.Need-same-length Inv-loop μ-loop
 same-length c = search needs
 
--- src/lib.rt:156:1
 returns : tie.Need-returns Inv-loop μ-loop
 unfolding undone entriesOf
 returns c = let z : c .before .loop .k ≡ 0 = omega arith in

@@ -8,16 +8,13 @@ use Rattle.operations.proofs.uses_amount.Tie as tie
 use Rattle.operations.proofs.uses_amount.Reads as reads
 use Rattle.operations.proofs.uses_amount.Lts as lts
 
--- src/lib.rt:31:9
 array-read-result : tie.Need-array-read-result
 array-read-result c = search needs
 
--- src/lib.rt:27:1
 returns : tie.Need-returns
 unfolding uses
 returns c = search needs
 
--- src/lib.rt:27:1
 returns-2 : tie.Need-returns-2
 unfolding uses
 returns-2 c = sym (List·getD-eq-default usesRow false (c .if1 .left))

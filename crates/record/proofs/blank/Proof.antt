@@ -17,37 +17,29 @@ Inv-loop row₀ from to i₀ row i = (from ≤ i) × (i ≤ to) × (length row �
 abbrev μ-loop : tie.MeasureT-loop
 μ-loop row₀ from to i₀ row i = to - i
 
--- src/lib.rt:233:5
 loop-holds : tie.Need-loop-holds Inv-loop μ-loop
 loop-holds c = (omega arith, omega (arith, c .pre), refl, ap (λ (x : ℕ). sets (c .args .row .now) (c .args .from) (zeros x)) (let z : 0 ≡ c .args .from - c .args .from = omega arith in z))
 
--- src/lib.rt:234:9
 mul-row : tie.Need-mul-row Inv-loop μ-loop
 mul-row c = search needs
 
--- src/lib.rt:234:9
 slice-write-row : tie.Need-slice-write-row Inv-loop μ-loop
 slice-write-row c = search needs
 
--- src/lib.rt:235:13
 add-i : tie.Need-add-i Inv-loop μ-loop
 add-i c = search needs
 
--- src/lib.rt:233:5
 loop-less : tie.Need-loop-less Inv-loop μ-loop
 loop-less c = search needs
 
--- src/lib.rt:233:5
 loop-again : tie.Need-loop-again Inv-loop μ-loop
 loop-again c = let l = c .before .loop in
     let a = c .before .before .args in
     (omega arith, omega arith, length-set (l .row) (l .i) 0 ∙ l .inv .2, blank-turn (a .row .now) (l .row) (a .from) (l .i) (l .inv .0) (l .inv .3))
 
--- src/lib.rt:228:1
 same-length : tie.Need-same-length Inv-loop μ-loop
 same-length c = c .before .loop .inv .2
 
--- src/lib.rt:228:1
 returns : tie.Need-returns Inv-loop μ-loop
 returns c = let l = c .before .loop in
     let a = c .before .before .args in

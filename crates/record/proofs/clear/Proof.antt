@@ -8,19 +8,15 @@ use Rattle.record.proofs.clear.Lts as lts
 use Rattle.record.proofs.blank.Reads as blank-reads
 use Rattle.record.proofs.least.Reads as least-reads
 
--- src/lib.rt:234:9
 least-requires : tie.Need-least-requires
 least-requires c κs = search needs
 
--- src/lib.rt:235:5
 blank-requires : tie.Need-blank-requires
 blank-requires c κs = search needs
 
--- src/lib.rt:230:1
 same-length : tie.Need-same-length
 same-length c = search needs
 
--- src/lib.rt:230:1
 returns : tie.Need-returns
 returns c = let a = c .before .before .before .before .before .before .args in
     let start = c .before .before .before .before .least in

@@ -11,31 +11,24 @@ use Rattle.record.proofs.fragment_at.Lts as lts
 use Rattle.record.proofs.fragment_in.Reads as fragment-in-reads
 use Rattle.record.proofs.words_from.Reads as words-from-reads
 
--- src/lib.rt:86:8
 add-if1 : tie.Need-add-if1
 add-if1 c = search needs
 
--- src/lib.rt:87:9
 fragment-in-requires : tie.Need-fragment-in-requires
 fragment-in-requires c κs = search needs
 
--- src/lib.rt:87:9
 returns : tie.Need-returns
 returns c = search needs
 
--- src/lib.rt:89:17
 words-from-requires : tie.Need-words-from-requires
 words-from-requires c κs = search needs
 
--- src/lib.rt:90:17
 slice-aggregate-fragment-in : tie.Need-slice-aggregate-fragment-in
 slice-aggregate-fragment-in c = search needs
 
--- src/lib.rt:90:5
 fragment-in-requires-2 : tie.Need-fragment-in-requires-2
 fragment-in-requires-2 c κs = search needs
 
--- src/lib.rt:82:1
 returns-2 : tie.Need-returns-2
 returns-2 c = let a = c .before .before .before .before .before .args in
     c .fragment-in2 .ensures ∙ ap (λ (l : List ℕ). fragmentAt l 0) (c .before .before .words-from .ensures) ∙ fragment-words (a .row .now) (a .b)

@@ -10,107 +10,81 @@ use Rattle.record.proofs.fragment_in.Reads as reads
 use Rattle.record.proofs.fragment_in.Lts as lts
 use Rattle.record.proofs.op_in.Reads as op-in-reads
 
--- src/lib.rt:86:21
 add-flags : tie.Need-add-flags
 add-flags c = search needs
 
--- src/lib.rt:86:17
 mul-flags : tie.Need-mul-flags
 mul-flags c = search needs
 
--- src/lib.rt:86:17
 shared-slice-read-flags : tie.Need-shared-slice-read-flags
 shared-slice-read-flags c = search needs
 
--- src/lib.rt:87:27
 add-coordinator : tie.Need-add-coordinator
 add-coordinator c = search needs
 
--- src/lib.rt:87:23
 mul-coordinator : tie.Need-mul-coordinator
 mul-coordinator c = search needs
 
--- src/lib.rt:87:23
 shared-slice-read-coordinator : tie.Need-shared-slice-read-coordinator
 shared-slice-read-coordinator c = search needs
 
--- src/lib.rt:88:21
 add-count : tie.Need-add-count
 add-count c = search needs
 
--- src/lib.rt:88:17
 mul-count : tie.Need-mul-count
 mul-count c = search needs
 
--- src/lib.rt:88:17
 shared-slice-read-count : tie.Need-shared-slice-read-count
 shared-slice-read-count c = search needs
 
--- src/lib.rt:89:25
 add-op-in : tie.Need-add-op-in
 add-op-in c = search needs
 
--- src/lib.rt:89:9
 op-in-requires : tie.Need-op-in-requires
 op-in-requires c κs = search needs
 
--- src/lib.rt:90:25
 add-op-in-2 : tie.Need-add-op-in-2
 add-op-in-2 c = search needs
 
--- src/lib.rt:90:9
 op-in-requires-2 : tie.Need-op-in-requires-2
 op-in-requires-2 c κs = search needs
 
--- src/lib.rt:91:25
 add-op-in-3 : tie.Need-add-op-in-3
 add-op-in-3 c = search needs
 
--- src/lib.rt:91:9
 op-in-requires-3 : tie.Need-op-in-requires-3
 op-in-requires-3 c κs = search needs
 
--- src/lib.rt:92:25
 add-op-in-4 : tie.Need-add-op-in-4
 add-op-in-4 c = search needs
 
--- src/lib.rt:92:9
 op-in-requires-4 : tie.Need-op-in-requires-4
 op-in-requires-4 c κs = search needs
 
--- src/lib.rt:93:25
 add-op-in-5 : tie.Need-add-op-in-5
 add-op-in-5 c = search needs
 
--- src/lib.rt:93:9
 op-in-requires-5 : tie.Need-op-in-requires-5
 op-in-requires-5 c κs = search needs
 
--- src/lib.rt:94:25
 add-op-in-6 : tie.Need-add-op-in-6
 add-op-in-6 c = search needs
 
--- src/lib.rt:94:9
 op-in-requires-6 : tie.Need-op-in-requires-6
 op-in-requires-6 c κs = search needs
 
--- src/lib.rt:95:25
 add-op-in-7 : tie.Need-add-op-in-7
 add-op-in-7 c = search needs
 
--- src/lib.rt:95:9
 op-in-requires-7 : tie.Need-op-in-requires-7
 op-in-requires-7 c κs = search needs
 
--- src/lib.rt:96:25
 add-op-in-8 : tie.Need-add-op-in-8
 add-op-in-8 c = omega (arith, c .before .before .before .before .before .before .before .before .before .before .before .pre, c .before .before .before .before .before .before .before .before .before .before .before .good)
 
--- src/lib.rt:96:9
 op-in-requires-8 : tie.Need-op-in-requires-8
 op-in-requires-8 c κs = omega (arith, c .before .before .before .before .before .before .before .before .before .before .before .pre)
 
--- src/lib.rt:82:1
 returns : tie.Need-returns
 unfolding fragmentAt
 returns c = let a = c .before .before .before .before .before .before .before .before .before .before .before .before .args in

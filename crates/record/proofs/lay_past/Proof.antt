@@ -19,42 +19,33 @@ Inv-loop row₀ at words n i₀ row i = (i ≤ n) × (length row ≡ length row�
 abbrev μ-loop : tie.MeasureT-loop
 μ-loop row₀ at words n i₀ row i = n - i
 
--- src/lib.rt:116:5
 loop-holds : tie.Need-loop-holds Inv-loop μ-loop
 loop-holds c = (search needs, refl, lay-start (c .before .before .args .row .now) (c .before .before .args .words .now) (c .before .before .args .at) 0 (c .before .before .args .n))
 
--- src/lib.rt:117:13
 number-at-requires : tie.Need-number-at-requires Inv-loop μ-loop
 number-at-requires c κs = search needs
 
--- src/lib.rt:118:33
 add-put-at : tie.Need-add-put-at Inv-loop μ-loop
 add-put-at c = search needs
 
--- src/lib.rt:118:9
 put-at-requires : tie.Need-put-at-requires Inv-loop μ-loop
 put-at-requires c κs = search needs
 
--- src/lib.rt:119:13
 add-i : tie.Need-add-i Inv-loop μ-loop
 add-i c = search needs
 
--- src/lib.rt:116:5
 loop-less : tie.Need-loop-less Inv-loop μ-loop
 loop-less c = search needs
 
--- src/lib.rt:116:5
 loop-again : tie.Need-loop-again Inv-loop μ-loop
 loop-again c = let l = c .before .before .before .before .before .before .loop in
     let a = c .before .before .before .before .before .before .before .before .before .args in
     let z : l .i ≡ 0 + l .i = omega arith in
     (omega arith, c .before .before .put-at .kept .0 ∙ l .inv .1, lay-turn (l .row) (c .before .before .put-at .last .0) (a .words .now) _ (a .at) 0 (a .n) (l .i) _ (c .before .before .before .before .before .loop-test .taken) (c .before .before .before .before .number-at .ensures ∙ ap (λ (k : ℕ). getD (a .words .now) k 0) z) (c .before .before .put-at .ensures) (l .inv .2))
 
--- src/lib.rt:112:1
 same-length : tie.Need-same-length Inv-loop μ-loop
 same-length c = c .before .loop .inv .1
 
--- src/lib.rt:112:1
 returns : tie.Need-returns Inv-loop μ-loop
 returns c = let l = c .before .loop in
     let a = c .before .before .before .before .args in

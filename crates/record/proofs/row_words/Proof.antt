@@ -6,39 +6,30 @@ use Rattle.record.proofs.row_words.Tie as tie
 use Rattle.record.proofs.row_words.Reads as reads
 use Rattle.record.proofs.row_words.Lts as lts
 
--- src/lib.rt:70:13
 array-copy-out-a : tie.Need-array-copy-out-a
 array-copy-out-a c = search needs
 
--- src/lib.rt:71:13
 array-copy-out-b : tie.Need-array-copy-out-b
 array-copy-out-b c = search needs
 
--- src/lib.rt:72:13
 array-copy-out-c : tie.Need-array-copy-out-c
 array-copy-out-c c = search needs
 
--- src/lib.rt:73:13
 array-copy-out-d : tie.Need-array-copy-out-d
 array-copy-out-d c = search needs
 
--- src/lib.rt:74:13
 array-copy-out-e : tie.Need-array-copy-out-e
 array-copy-out-e c = search needs
 
--- src/lib.rt:75:13
 array-copy-out-g : tie.Need-array-copy-out-g
 array-copy-out-g c = search needs
 
--- src/lib.rt:76:13
 array-copy-out-h : tie.Need-array-copy-out-h
 array-copy-out-h c = search needs
 
--- src/lib.rt:77:13
 array-copy-out-i : tie.Need-array-copy-out-i
 array-copy-out-i c = search needs
 
--- src/lib.rt:66:1
 returns : tie.Need-returns
 returns c = row-words (c .before .before .before .before .before .before .before .before .before .args .number) (c .before .before .before .before .before .before .before .before .before .args .f) (search (unmapped, needs))
 

@@ -14,36 +14,28 @@ use Rattle.record.proofs.least.Reads as least-reads
 use Rattle.record.proofs.less.Reads as less-reads
 use Rattle.record.proofs.move_down.Reads as move-down-reads
 
--- src/lib.rt:245:9
 returns : tie.Need-returns
 returns c = let a = c .before .before .args in
     shift-none (a .row .now) (a .m) ∙ ap (λ (x : ℕ). sets (a .row .now) 0 (numbersFrom (a .row .now) x (a .m))) (sym (c .if1 .taken))
 
--- src/lib.rt:249:9
 least-requires : tie.Need-least-requires
 least-requires c κs = search needs
 
--- src/lib.rt:250:9
 less-requires : tie.Need-less-requires
 less-requires c κs = search needs
 
--- src/lib.rt:251:9
 least-requires-2 : tie.Need-least-requires-2
 least-requires-2 c κs = search needs
 
--- src/lib.rt:252:5
 move-down-requires : tie.Need-move-down-requires
 move-down-requires c κs = search needs
 
--- src/lib.rt:253:5
 blank-requires : tie.Need-blank-requires
 blank-requires c κs = search needs
 
--- src/lib.rt:240:1
 same-length : tie.Need-same-length
 same-length c = search needs
 
--- src/lib.rt:240:1
 returns-2 : tie.Need-returns-2
 returns-2 c = let a = c .before .before .before .before .before .before .before .before .before .before .before .before .before .args in
     let stop = c .before .before .before .before .before .before .before .before .before .before .least in

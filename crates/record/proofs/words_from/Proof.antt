@@ -10,23 +10,18 @@ use Rattle.record.proofs.lay_in.Reads as lay-in-reads
 use Rattle.record.proofs.least.Reads as least-reads
 use Rattle.record.proofs.less.Reads as less-reads
 
--- src/lib.rt:72:9
 less-requires : tie.Need-less-requires
 less-requires c κs = search needs
 
--- src/lib.rt:73:9
 least-requires : tie.Need-least-requires
 least-requires c κs = search needs
 
--- src/lib.rt:74:12
 slice-aggregate-lay-in : tie.Need-slice-aggregate-lay-in
 slice-aggregate-lay-in c = search needs
 
--- src/lib.rt:74:5
 lay-in-requires : tie.Need-lay-in-requires
 lay-in-requires c κs = search needs
 
--- src/lib.rt:68:1
 returns : tie.Need-returns
 returns c = let a = c .before .before .before .before .before .before .args in
     let n = c .before .before .before .least in

@@ -16,42 +16,34 @@ use Rattle.refusals.proofs.decision_row.Lts as lts
 use Rattle.operations.proofs.number_at.Reads as number-at-reads
 use Rattle.refusals.proofs.is_finished.Reads as is-finished-reads
 
--- src/lib.rt:168:9
 returns : tie.Need-returns
 returns c = search needs
 
--- src/lib.rt:171:9
 returns-2 : tie.Need-returns-2
 returns-2 c = let a = c .before .before .before .args in
     λ i. decided (sym (not-true (a .commits) (c .if2 .taken)) i) (sym (c .before .if1 .left) i) (a .front) (finished (stateOf (getD (a .runs .now) 1 0))) (failed (stateOf (getD (a .runs .now) 1 0)))
 
--- src/lib.rt:174:9
 returns-3 : tie.Need-returns-3
 returns-3 c = let a = c .before .before .before .before .args in
     λ i. decided (sym (not-false (a .commits) (c .before .if2 .left)) i) (sym (c .before .before .if1 .left) i) (sym (not-true (a .front) (c .if3 .taken)) i) (finished (stateOf (getD (a .runs .now) 1 0))) (failed (stateOf (getD (a .runs .now) 1 0)))
 
--- src/lib.rt:176:9
 number-at-requires : tie.Need-number-at-requires
 number-at-requires c κs = search needs
 
--- src/lib.rt:177:9
 is-finished-requires : tie.Need-is-finished-requires
 is-finished-requires c κs = search needs
 
--- src/lib.rt:178:9
 returns-4 : tie.Need-returns-4
 returns-4 c = let a = c .before .before .before .before .before .before .before .args in
     let s : false ≡ finished (stateOf (getD (a .runs .now) 1 0)) = sym (not-true (c .before .is-finished .result) (c .if4 .taken)) ∙ c .before .is-finished .ensures ∙ ap (λ (x : ℕ). finished (stateOf x)) (c .before .before .number-at .ensures) in
     λ i. decided (sym (not-false (a .commits) (c .before .before .before .before .if2 .left)) i) (sym (c .before .before .before .before .before .if1 .left) i) (sym (not-false (a .front) (c .before .before .before .if3 .left)) i) (s i) (failed (stateOf (getD (a .runs .now) 1 0)))
 
--- src/lib.rt:181:9
 returns-5 : tie.Need-returns-5
 returns-5 c = let a = c .before .before .before .before .before .before .before .before .args in
     let s : true ≡ finished (stateOf (getD (a .runs .now) 1 0)) = sym (not-false (c .before .before .is-finished .result) (c .before .if4 .left)) ∙ c .before .before .is-finished .ensures ∙ ap (λ (x : ℕ). finished (stateOf x)) (c .before .before .before .number-at .ensures) in
     let t : true ≡ failed (stateOf (getD (a .runs .now) 1 0)) = sym (eq-eqb (c .before .before .before .number-at .result) 2 (c .if5 .taken)) ∙ ap (λ (x : ℕ). eqb x 2) (c .before .before .before .number-at .ensures) ∙ sym (failed-word (getD (a .runs .now) 1 0) (sym s)) in
     λ i. decided (sym (not-false (a .commits) (c .before .before .before .before .before .if2 .left)) i) (sym (c .before .before .before .before .before .before .if1 .left) i) (sym (not-false (a .front) (c .before .before .before .before .if3 .left)) i) (s i) (t i)
 
--- src/lib.rt:164:1
 returns-6 : tie.Need-returns-6
 returns-6 c = let a = c .before .before .before .before .before .before .before .before .args in
     let s : true ≡ finished (stateOf (getD (a .runs .now) 1 0)) = sym (not-false (c .before .before .is-finished .result) (c .before .if4 .left)) ∙ c .before .before .is-finished .ensures ∙ ap (λ (x : ℕ). finished (stateOf x)) (c .before .before .before .number-at .ensures) in

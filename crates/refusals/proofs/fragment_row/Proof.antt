@@ -19,36 +19,29 @@ use Rattle.refusals.proofs.is_finished.Reads as is-finished-reads
 use Rattle.refusals.proofs.is_foreign.Reads as is-foreign-reads
 use Rattle.refusals.proofs.is_full.Reads as is-full-reads
 
--- src/lib.rt:139:9
 is-full-requires : tie.Need-is-full-requires
 is-full-requires c κs = search needs
 
--- src/lib.rt:141:13
 number-at-requires : tie.Need-number-at-requires
 number-at-requires c κs = search needs
 
--- src/lib.rt:142:12
 is-finished-requires : tie.Need-is-finished-requires
 is-finished-requires c κs = search needs
 
--- src/lib.rt:143:13
 returns : tie.Need-returns
 returns c = let a = c .before .before .before .before .before .before .before .args in
     let s : true ≡ finished (stateOf (getD (a .runs .now) 1 0)) = sym (c .if2 .taken) ∙ c .before .is-finished .ensures ∙ ap (λ (x : ℕ). finished (stateOf x)) (c .before .before .number-at .ensures) in
     λ i. asked (sym (c .before .before .before .if1 .taken) i) (s i) (foreign (a .live .now) (a .f)) (a .fresh && leb mostLive (a .uncommitted + a .waiting)) (leb mostFragments (getD (a .runs .now) 0 0))
 
--- src/lib.rt:145:12
 is-foreign-requires : tie.Need-is-foreign-requires
 is-foreign-requires c κs = search needs
 
--- src/lib.rt:146:13
 returns-2 : tie.Need-returns-2
 returns-2 c = let a = c .before .before .before .before .before .before .before .before .before .args in
     let s : false ≡ finished (stateOf (getD (a .runs .now) 1 0)) = sym (c .before .before .if2 .left) ∙ c .before .before .before .is-finished .ensures ∙ ap (λ (x : ℕ). finished (stateOf x)) (c .before .before .before .before .number-at .ensures) in
     let o : true ≡ foreign (a .live .now) (a .f) = sym (c .if3 .taken) ∙ c .before .is-foreign .ensures in
     λ i. asked (sym (c .before .before .before .before .before .if1 .taken) i) (s i) (o i) (a .fresh && leb mostLive (a .uncommitted + a .waiting)) (leb mostFragments (getD (a .runs .now) 0 0))
 
--- src/lib.rt:149:13
 returns-3 : tie.Need-returns-3
 returns-3 c = let a = c .before .before .before .before .before .before .before .before .before .before .args in
     let s : false ≡ finished (stateOf (getD (a .runs .now) 1 0)) = sym (c .before .before .before .if2 .left) ∙ c .before .before .before .before .is-finished .ensures ∙ ap (λ (x : ℕ). finished (stateOf x)) (c .before .before .before .before .before .number-at .ensures) in
@@ -56,11 +49,9 @@ returns-3 c = let a = c .before .before .before .before .before .before .before 
     let l : true ≡ (a .fresh && leb mostLive (a .uncommitted + a .waiting)) = sym (c .if4 .taken) ∙ c .before .before .before .before .before .before .before .is-full .ensures in
     λ i. asked (sym (c .before .before .before .before .before .before .if1 .taken) i) (s i) (o i) (l i) (leb mostFragments (getD (a .runs .now) 0 0))
 
--- src/lib.rt:151:13
 number-at-requires-2 : tie.Need-number-at-requires-2
 number-at-requires-2 c κs = search needs
 
--- src/lib.rt:153:13
 returns-4 : tie.Need-returns-4
 returns-4 c = let a = c .before .before .before .before .before .before .before .before .before .before .before .before .args in
     let s : false ≡ finished (stateOf (getD (a .runs .now) 1 0)) = sym (c .before .before .before .before .before .if2 .left) ∙ c .before .before .before .before .before .before .is-finished .ensures ∙ ap (λ (x : ℕ). finished (stateOf x)) (c .before .before .before .before .before .before .before .number-at .ensures) in
@@ -69,7 +60,6 @@ returns-4 c = let a = c .before .before .before .before .before .before .before 
     let r : true ≡ leb mostFragments (getD (a .runs .now) 0 0) = sym (le-leb mostFragments (c .before .number-at2 .result) (c .if5 .taken)) ∙ ap (leb mostFragments) (c .before .number-at2 .ensures) in
     λ i. asked (sym (c .before .before .before .before .before .before .before .before .if1 .taken) i) (s i) (o i) (l i) (r i)
 
--- src/lib.rt:155:9
 returns-5 : tie.Need-returns-5
 returns-5 c = let a = c .before .before .before .before .before .before .before .before .before .before .before .before .args in
     let s : false ≡ finished (stateOf (getD (a .runs .now) 1 0)) = sym (c .before .before .before .before .before .if2 .left) ∙ c .before .before .before .before .before .before .is-finished .ensures ∙ ap (λ (x : ℕ). finished (stateOf x)) (c .before .before .before .before .before .before .before .number-at .ensures) in
@@ -78,13 +68,11 @@ returns-5 c = let a = c .before .before .before .before .before .before .before 
     let r : false ≡ leb mostFragments (getD (a .runs .now) 0 0) = sym (lt-leb mostFragments (c .before .number-at2 .result) (c .if5 .left)) ∙ ap (leb mostFragments) (c .before .number-at2 .ensures) in
     λ i. asked (sym (c .before .before .before .before .before .before .before .before .if1 .taken) i) (s i) (o i) (l i) (r i)
 
--- src/lib.rt:158:9
 returns-6 : tie.Need-returns-6
 returns-6 c = let a = c .before .before .before .before .before .args in
     let l : true ≡ (a .fresh && leb mostLive (a .uncommitted + a .waiting)) = sym (c .if6 .taken) ∙ c .before .before .is-full .ensures in
     λ i. asked (sym (c .before .if1 .left) i) (finished (stateOf (getD (a .runs .now) 1 0))) (foreign (a .live .now) (a .f)) (l i) (leb mostFragments (getD (a .runs .now) 0 0))
 
--- src/lib.rt:136:1
 returns-7 : tie.Need-returns-7
 returns-7 c = let a = c .before .before .before .before .before .args in
     let l : false ≡ (a .fresh && leb mostLive (a .uncommitted + a .waiting)) = sym (c .if6 .left) ∙ c .before .before .is-full .ensures in

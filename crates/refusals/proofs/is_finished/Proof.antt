@@ -9,11 +9,9 @@ use Rattle.refusals.proofs.is_finished.Tie as tie
 use Rattle.refusals.proofs.is_finished.Reads as reads
 use Rattle.refusals.proofs.is_finished.Lts as lts
 
--- src/lib.rt:109:9
 returns : tie.Need-returns
 returns c = sym (finished-word (c .before .args .word) ∙ ap (λ (x : ℕ). eqb x 1 || eqb x 2) (c .if1 .taken))
 
--- src/lib.rt:105:1
 returns-2 : tie.Need-returns-2
 returns-2 c = let w = c .before .args .word in
     ap (λ (b : Bool). b || eqb w 2) (sym (ne-eqb w 1 (c .if1 .left))) ∙ sym (finished-word w)

@@ -12,20 +12,16 @@ use Rattle.refusals.proofs.is_foreign.Lts as lts
 use Rattle.operations.proofs.is_multi.Reads as is-multi-reads
 use Rattle.operations.proofs.number_at.Reads as number-at-reads
 
--- src/lib.rt:118:9
 is-multi-requires : tie.Need-is-multi-requires
 is-multi-requires c κs = search needs
 
--- src/lib.rt:119:9
 returns : tie.Need-returns
 returns c = let m : multi (c .before .before .before .args .f) ≡ false = sym (c .before .is-multi .ensures) ∙ not-true (c .before .is-multi .result) (c .if1 .taken) in
     rw m
 
--- src/lib.rt:121:9
 number-at-requires : tie.Need-number-at-requires
 number-at-requires c κs = search needs
 
--- src/lib.rt:115:1
 returns-2 : tie.Need-returns-2
 returns-2 c = let f = c .before .before .before .before .before .args .f in
     let m : multi f ≡ true = sym (c .before .before .before .is-multi .ensures) ∙ not-false (c .before .before .before .is-multi .result) (c .before .before .if1 .left) in

@@ -9,15 +9,12 @@ use Rattle.refusals.proofs.is_front.Reads as reads
 use Rattle.refusals.proofs.is_front.Lts as lts
 use Rattle.operations.proofs.number_at.Reads as number-at-reads
 
--- src/lib.rt:82:9
 returns : tie.Need-returns
 returns c = rw (eq-eqb (c .before .before .args .uncommitted) 0 (c .if1 .taken))
 
--- src/lib.rt:84:9
 number-at-requires : tie.Need-number-at-requires
 number-at-requires c κs = search needs
 
--- src/lib.rt:78:1
 returns-2 : tie.Need-returns-2
 returns-2 c = rw (ne-eqb (c .before .before .before .args .uncommitted) 0 (c .before .if1 .left)) (ap (λ (x : ℕ). eqb x (c .before .before .before .args .number)) (c .number-at .ensures))
 

@@ -17,44 +17,35 @@ Inv-loop live uncommitted waiting number n i₀ i = (i ≤ n) × (isIn number (r
 abbrev μ-loop : tie.MeasureT-loop
 μ-loop live uncommitted waiting number n i₀ i = n - i
 
--- src/lib.rt:65:13
 add-n : tie.Need-add-n Inv-loop μ-loop
 add-n c = search needs
 
--- src/lib.rt:67:5
 loop-holds : tie.Need-loop-holds Inv-loop μ-loop
 loop-holds c = let a = c .before .args in
     (search needs, live-start (a .live .now) (a .uncommitted + a .waiting) (a .uncommitted + a .waiting) (a .number) refl)
 
--- src/lib.rt:68:49
 mul-number-at : tie.Need-mul-number-at Inv-loop μ-loop
 mul-number-at c = search needs
 
--- src/lib.rt:68:13
 number-at-requires : tie.Need-number-at-requires Inv-loop μ-loop
 number-at-requires c κs = search needs
 
--- src/lib.rt:70:13
 returns : tie.Need-returns Inv-loop μ-loop
 returns c = let a = c .before .before .before .before .before .args in
     let l = c .before .before .before .loop in
     live-found (a .live .now) (a .uncommitted + a .waiting) (a .number) (l .i) _ (l .inv .1) (c .before .before .loop-test .taken) (c .before .number-at .result) (c .before .number-at .ensures) (c .if1 .taken)
 
--- src/lib.rt:72:13
 add-i : tie.Need-add-i Inv-loop μ-loop
 add-i c = search needs
 
--- src/lib.rt:67:5
 loop-less : tie.Need-loop-less Inv-loop μ-loop
 loop-less c = search needs
 
--- src/lib.rt:67:5
 loop-again : tie.Need-loop-again Inv-loop μ-loop
 loop-again c = let a = c .before .before .before .before .before .args in
     let l = c .before .before .before .loop in
     (omega arith, live-on (a .live .now) (a .uncommitted + a .waiting) (a .number) (l .i) _ (l .inv .1) (c .before .before .loop-test .taken) (c .before .number-at .result) (c .before .number-at .ensures) (c .if1 .left))
 
--- src/lib.rt:62:1
 returns-2 : tie.Need-returns-2 Inv-loop μ-loop
 returns-2 c = let a = c .before .before .before .args in
     let l = c .before .loop in

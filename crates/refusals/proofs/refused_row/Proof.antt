@@ -17,39 +17,31 @@ use Rattle.refusals.proofs.is_live.Reads as is-live-reads
 use Rattle.refusals.proofs.known_row.Reads as known-row-reads
 use Rattle.refusals.proofs.shape_row.Reads as shape-row-reads
 
--- src/lib.rt:190:9
 shape-row-requires : tie.Need-shape-row-requires
 shape-row-requires c κs = search needs
 
--- src/lib.rt:192:9
 returns : tie.Need-returns
 returns c σ = let a = c .before .before .before .before .before .before .before .args in
     by-shape σ (a .count) (a .largest) (a .uncommitted) (a .waiting) (a .live .now) (a .runs .now) (a .undo .now) (a .event) (a .cells .now) (a .room .now) (c .before .shape-row .result) (c .before .shape-row .ensures) (c .if1 .taken)
 
--- src/lib.rt:196:9
 is-live-requires : tie.Need-is-live-requires
 is-live-requires c κs = search needs
 
--- src/lib.rt:197:9
 is-front-requires : tie.Need-is-front-requires
 is-front-requires c κs = search needs
 
--- src/lib.rt:198:9
 known-row-requires : tie.Need-known-row-requires
 known-row-requires c κs = search needs
 
--- src/lib.rt:200:9
 returns-2 : tie.Need-returns-2
 returns-2 c σ = let a = c .before .before .before .before .before .before .before .before .before .before .before .args in
     let k : c .before .known-row .result ≡ firstOf (knownRows (isIn (a .event .number) (rowNumbers (a .live .now) 0 (a .uncommitted + a .waiting))) (ltb (a .largest) (a .event .number)) (frontIs (a .uncommitted) (a .live .now) (a .event .number))) =
     c .before .known-row .ensures ∙ (λ i. firstOf (knownRows (c .before .before .before .is-live .ensures i) (ltb (a .largest) (a .event .number)) (c .before .before .is-front .ensures i))) in
     by-known σ (a .count) (a .largest) (a .uncommitted) (a .waiting) (a .live .now) (a .runs .now) (a .undo .now) (a .event) (a .cells .now) (a .room .now) (c .before .before .before .before .before .shape-row .result) (c .before .before .before .before .before .shape-row .ensures) (c .before .before .before .before .if1 .left) (c .before .known-row .result) k (c .if2 .taken)
 
--- src/lib.rt:205:9
 fragment-row-requires : tie.Need-fragment-row-requires
 fragment-row-requires c κs = search needs
 
--- src/lib.rt:205:9
 returns-3 : tie.Need-returns-3
 returns-3 c σ = let a = c .before .before .before .before .before .before .before .before .before .before .before .before .before .before .args in
     let k : c .before .before .before .before .known-row .result ≡ firstOf (knownRows (isIn (a .event .number) (rowNumbers (a .live .now) 0 (a .uncommitted + a .waiting))) (ltb (a .largest) (a .event .number)) (frontIs (a .uncommitted) (a .live .now) (a .event .number))) =
@@ -57,11 +49,9 @@ returns-3 c σ = let a = c .before .before .before .before .before .before .befo
     c .fragment-row .ensures ∙ ap (λ (x : Bool). firstOf (fragmentRows (a .uncommitted + a .waiting) (ltb (a .largest) (a .event .number)) x (a .live .now) (a .runs .now) (a .event .fragment))) (c .before .before .before .before .before .is-front .ensures)
     ∙ by-fragment σ (a .count) (a .largest) (a .uncommitted) (a .waiting) (a .live .now) (a .runs .now) (a .undo .now) (a .event) (a .cells .now) (a .room .now) (c .before .before .before .before .before .before .before .before .shape-row .result) (c .before .before .before .before .before .before .before .before .shape-row .ensures) (c .before .before .before .before .before .before .before .if1 .left) (c .before .before .before .before .known-row .result) k (c .before .before .before .if2 .left) (c .before .before .if3 .taken)
 
--- src/lib.rt:207:5
 decision-row-requires : tie.Need-decision-row-requires
 decision-row-requires c κs = search needs
 
--- src/lib.rt:187:1
 returns-4 : tie.Need-returns-4
 returns-4 c σ = let a = c .before .before .before .before .before .before .before .before .before .before .before .before .before .args in
     let k : c .before .before .before .known-row .result ≡ firstOf (knownRows (isIn (a .event .number) (rowNumbers (a .live .now) 0 (a .uncommitted + a .waiting))) (ltb (a .largest) (a .event .number)) (frontIs (a .uncommitted) (a .live .now) (a .event .number))) =

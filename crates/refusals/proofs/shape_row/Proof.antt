@@ -12,50 +12,41 @@ use Rattle.refusals.proofs.shape_row.Lts as lts
 use Rattle.operations.proofs.is_inside.Reads as is-inside-reads
 use Rattle.refusals.proofs.is_formed_event.Reads as is-formed-event-reads
 
--- src/lib.rt:40:9
 returns : tie.Need-returns
 returns c = let a = c .before .before .before .args in
     rw (lt-ltb (length (a .room .now)) leastRoom (c .if1 .taken))
 
--- src/lib.rt:43:9
 returns-2 : tie.Need-returns-2
 returns-2 c = let a = c .before .before .before .before .args in
     rw (le-ltb (length (a .room .now)) leastRoom (c .before .if1 .left), eq-eqb (length (a .cells .now)) 0 (c .if2 .taken))
 
--- src/lib.rt:46:9
 returns-3 : tie.Need-returns-3
 returns-3 c = let a = c .before .before .before .before .before .args in
     rw (le-ltb (length (a .room .now)) leastRoom (c .before .before .if1 .left), ne-eqb (length (a .cells .now)) 0 (c .before .if2 .left), ne-eqb (length (a .cells .now)) (a .count) (c .if3 .taken))
 
--- src/lib.rt:48:9
 is-formed-event-requires : tie.Need-is-formed-event-requires
 is-formed-event-requires c κs = search needs
 
--- src/lib.rt:49:9
 returns-4 : tie.Need-returns-4
 returns-4 c = let a = c .before .before .before .before .before .before .before .args in
     let g : formedEvent (a .event) ≡ false = sym (c .before .is-formed-event .ensures) ∙ not-true (c .before .is-formed-event .result) (c .if4 .taken) in
     rw (le-ltb (length (a .room .now)) leastRoom (c .before .before .before .before .if1 .left), ne-eqb (length (a .cells .now)) 0 (c .before .before .before .if2 .left), eq-eqb (length (a .cells .now)) (a .count) (c .before .before .if3 .left), g)
 
--- src/lib.rt:53:13
 is-inside-requires : tie.Need-is-inside-requires
 is-inside-requires c κs = search needs
 
--- src/lib.rt:54:13
 returns-5 : tie.Need-returns-5
 returns-5 c = let a = c .before .before .before .before .before .before .before .before .before .before .before .before .args in
     let g : formedEvent (a .event) ≡ true = sym (c .before .before .before .before .before .before .is-formed-event .ensures) ∙ not-false (c .before .before .before .before .before .before .is-formed-event .result) (c .before .before .before .before .before .if4 .left) in
     let i : inside (a .count) (a .event .fragment) ≡ false = sym (c .before .is-inside .ensures) ∙ not-true (c .before .is-inside .result) (c .if6 .taken) in
     rw (le-ltb (length (a .room .now)) leastRoom (c .before .before .before .before .before .before .before .before .before .if1 .left), ne-eqb (length (a .cells .now)) 0 (c .before .before .before .before .before .before .before .before .if2 .left), eq-eqb (length (a .cells .now)) (a .count) (c .before .before .before .before .before .before .before .if3 .left), g, eq-eqb (a .event .kind) 1 (c .before .before .before .if5 .taken), i)
 
--- src/lib.rt:56:9
 returns-6 : tie.Need-returns-6
 returns-6 c = let a = c .before .before .before .before .before .before .before .before .before .before .before .before .args in
     let g : formedEvent (a .event) ≡ true = sym (c .before .before .before .before .before .before .is-formed-event .ensures) ∙ not-false (c .before .before .before .before .before .before .is-formed-event .result) (c .before .before .before .before .before .if4 .left) in
     let i : inside (a .count) (a .event .fragment) ≡ true = sym (c .before .is-inside .ensures) ∙ not-false (c .before .is-inside .result) (c .if6 .left) in
     rw (le-ltb (length (a .room .now)) leastRoom (c .before .before .before .before .before .before .before .before .before .if1 .left), ne-eqb (length (a .cells .now)) 0 (c .before .before .before .before .before .before .before .before .if2 .left), eq-eqb (length (a .cells .now)) (a .count) (c .before .before .before .before .before .before .before .if3 .left), g, eq-eqb (a .event .kind) 1 (c .before .before .before .if5 .taken), i)
 
--- src/lib.rt:36:1
 returns-7 : tie.Need-returns-7
 returns-7 c = let a = c .before .before .before .before .before .before .before .before .before .args in
     let g : formedEvent (a .event) ≡ true = sym (c .before .before .before .is-formed-event .ensures) ∙ not-false (c .before .before .before .is-formed-event .result) (c .before .before .if4 .left) in

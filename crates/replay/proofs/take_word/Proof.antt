@@ -8,19 +8,15 @@ use Rattle.replay.proofs.take_word.Lts as lts
 use Rattle.os.proofs.arg.Reads as arg-reads
 use Rattle.os.proofs.errno.Reads as errno-reads
 
--- src/main.rt:248:9
 arg-requires : tie.Need-arg-requires
 arg-requires c κs = search needs
 
--- src/main.rt:249:8
 errno-requires : tie.Need-errno-requires
 errno-requires c κs = search needs
 
--- src/main.rt:250:9
 returns : tie.Need-returns
 returns c = (search needs, sym (length-take-le 16 (c .before .before .arg .last .1 .0) (search needs)))
 
--- src/main.rt:245:1
 returns-2 : tie.Need-returns-2
 returns-2 c = search needs
 

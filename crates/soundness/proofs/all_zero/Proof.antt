@@ -18,40 +18,32 @@ Inv-loop row from to most₀ i₀ most i = (from ≤ i) × (i ≤ to) × (isZero
 abbrev μ-loop : tie.MeasureT-loop
 μ-loop row from to most₀ i₀ most i = to - i
 
--- src/lib.rt:25:5
 loop-holds : tie.Need-loop-holds Inv-loop μ-loop
 unfolding numbersFrom
 loop-holds c = let a = c .before .args in
     let z : 0 ≡ a .from - a .from = omega arith in
     (omega arith, omega (arith, c .before .pre), ap (λ (x : ℕ). every isZero (numbersFrom (a .row .now) (a .from) x)) z)
 
--- src/lib.rt:26:17
 mul-w : tie.Need-mul-w Inv-loop μ-loop
 mul-w c = search needs
 
--- src/lib.rt:26:17
 shared-slice-read-w : tie.Need-shared-slice-read-w Inv-loop μ-loop
 shared-slice-read-w c = search needs
 
--- src/lib.rt:27:9
 larger-requires : tie.Need-larger-requires Inv-loop μ-loop
 larger-requires c κs = search needs
 
--- src/lib.rt:28:13
 add-i : tie.Need-add-i Inv-loop μ-loop
 add-i c = search needs
 
--- src/lib.rt:25:5
 loop-less : tie.Need-loop-less Inv-loop μ-loop
 loop-less c = search needs
 
--- src/lib.rt:25:5
 loop-again : tie.Need-loop-again Inv-loop μ-loop
 loop-again c = let l = c .before .before .before .loop in
     let a = c .before .before .before .before .before .args in
     (omega arith, omega arith, ap isZero (c .larger .ensures) ∙ zeros-turn (a .row .now) (a .from) (l .i) (l .most) _ (l .inv .0) refl (l .inv .2))
 
--- src/lib.rt:19:1
 returns : tie.Need-returns Inv-loop μ-loop
 returns c = let l = c .before .loop in
     let a = c .before .before .before .args in

@@ -18,57 +18,45 @@ Inv-loop live runs n b₀ c₀ left₀ b c left = (b + 28 * left ≡ 28 * n) × 
 abbrev μ-loop : tie.MeasureT-loop
 μ-loop live runs n b₀ c₀ left₀ b c left = left
 
--- src/lib.rt:129:5
 loop-holds : tie.Need-loop-holds Inv-loop μ-loop
 loop-holds c = (omega arith, omega arith, omega arith, refl)
 
--- src/lib.rt:130:49
 add-number-at : tie.Need-add-number-at Inv-loop μ-loop
 add-number-at c = search needs
 
--- src/lib.rt:130:13
 number-at-requires : tie.Need-number-at-requires Inv-loop μ-loop
 number-at-requires c κs = search needs
 
--- src/lib.rt:132:13
 returns : tie.Need-returns Inv-loop μ-loop
 returns c = let a = c .before .before .before .before .before .before .args in
     let l = c .before .before .before .loop in
     behind-open (a .live .now) (l .b) (a .runs .now) (l .c) (l .left) _ (l .inv .3) (c .before .before .loop-test .taken) (c .before .number-at .result) (c .before .number-at .ensures) (c .if1 .taken)
 
--- src/lib.rt:134:13
 add-b : tie.Need-add-b Inv-loop μ-loop
 add-b c = search needs
 
--- src/lib.rt:135:13
 add-c : tie.Need-add-c Inv-loop μ-loop
 add-c c = search needs
 
--- src/lib.rt:136:13
 next-ok-requires : tie.Need-next-ok-requires Inv-loop μ-loop
 next-ok-requires c κs = search needs
 
--- src/lib.rt:137:13
 returns-2 : tie.Need-returns-2 Inv-loop μ-loop
 returns-2 c = let a = c .before .before .before .before .before .before .before .before .args in
     let l = c .before .before .before .before .before .loop in
     behind-off (a .live .now) (l .b) (a .runs .now) (l .c) (l .left) _ (l .inv .3) (c .before .before .before .before .loop-test .taken) (c .before .before .before .number-at .result) (c .before .before .before .number-at .ensures) (c .before .before .if1 .left) (sym (c .before .next-ok .ensures) ∙ not-true (c .before .next-ok .result) (c .if2 .taken))
 
--- src/lib.rt:139:16
 sub-left : tie.Need-sub-left Inv-loop μ-loop
 sub-left c = search needs
 
--- src/lib.rt:129:5
 loop-less : tie.Need-loop-less Inv-loop μ-loop
 loop-less c = search needs
 
--- src/lib.rt:129:5
 loop-again : tie.Need-loop-again Inv-loop μ-loop
 loop-again c = let a = c .before .before .before .before .before .before .before .before .args in
     let l = c .before .before .before .before .before .loop in
     (omega arith, omega arith, l .inv .2, behind-on (a .live .now) (l .b) (a .runs .now) (l .c) (l .left) _ (l .inv .3) (c .before .before .before .before .loop-test .taken) (c .before .before .before .number-at .result) (c .before .before .before .number-at .ensures) (c .before .before .if1 .left) (sym (c .before .next-ok .ensures) ∙ not-false (c .before .next-ok .result) (c .if2 .left)))
 
--- src/lib.rt:122:1
 returns-3 : tie.Need-returns-3 Inv-loop μ-loop
 returns-3 c = let a = c .before .before .before .before .args in
     let l = c .before .loop in

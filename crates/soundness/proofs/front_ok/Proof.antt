@@ -8,29 +8,23 @@ use Rattle.soundness.proofs.front_ok.Lts as lts
 use Rattle.operations.proofs.number_at.Reads as number-at-reads
 use Rattle.soundness.proofs.run_ok.Reads as run-ok-reads
 
--- src/lib.rt:92:9
 number-at-requires : tie.Need-number-at-requires
 number-at-requires c κs = search needs
 
--- src/lib.rt:94:9
 returns : tie.Need-returns
 unfolding frontOk
 returns c = rw (← (c .before .number-at .ensures), ne-eqb _ _ (c .if1 .taken))
 
--- src/lib.rt:96:9
 number-at-requires-2 : tie.Need-number-at-requires-2
 number-at-requires-2 c κs = search needs
 
--- src/lib.rt:98:9
 returns-2 : tie.Need-returns-2
 unfolding frontOk
 returns-2 c = rw (← (c .before .before .before .number-at .ensures), eq-eqb _ _ (c .before .before .if1 .left), ← (c .before .number-at2 .ensures), ne-eqb _ _ (c .if2 .taken))
 
--- src/lib.rt:100:5
 run-ok-requires : tie.Need-run-ok-requires
 run-ok-requires c κs = search needs
 
--- src/lib.rt:89:1
 returns-3 : tie.Need-returns-3
 unfolding frontOk
 returns-3 c = rw (← (c .before .before .before .before .number-at .ensures), eq-eqb _ _ (c .before .before .before .if1 .left), ← (c .before .before .number-at2 .ensures), eq-eqb _ _ (c .before .if2 .left)) (c .run-ok .ensures)

@@ -15,40 +15,33 @@ use Rattle.soundness.proofs.members_ok.Reads as members-ok-reads
 use Rattle.soundness.proofs.total.Reads as total-reads
 use Rattle.soundness.proofs.undo_ok.Reads as undo-ok-reads
 
--- src/lib.rt:198:9
 returns : tie.Need-returns
 unfolding groups
 returns c = let a = c .before .before .before .before .args in
     let g : false ≡ groups (a .count) (a .largest) (a .uncommitted) (a .waiting) (a .live .now) (a .runs .now) (a .undo .now) = rw (lt-leb (a .count) 4096 (c .if1 .taken)) in
     g ∙ groups-sound (a .count) (a .largest) (a .uncommitted) (a .waiting) (a .live .now) (a .runs .now) (a .undo .now)
 
--- src/lib.rt:201:9
 returns-2 : tie.Need-returns-2
 unfolding groups
 returns-2 c = let a = c .before .before .before .before .before .args in
     let g : false ≡ groups (a .count) (a .largest) (a .uncommitted) (a .waiting) (a .live .now) (a .runs .now) (a .undo .now) = rw (le-leb (a .count) 4096 (c .before .if1 .left), lt-leb (a .uncommitted) 16 (c .if2 .taken)) in
     g ∙ groups-sound (a .count) (a .largest) (a .uncommitted) (a .waiting) (a .live .now) (a .runs .now) (a .undo .now)
 
--- src/lib.rt:203:8
 sub-if3 : tie.Need-sub-if3
 sub-if3 c = search needs
 
--- src/lib.rt:204:9
 returns-3 : tie.Need-returns-3
 unfolding groups
 returns-3 c = let a = c .before .before .before .before .before .before .args in
     let g : false ≡ groups (a .count) (a .largest) (a .uncommitted) (a .waiting) (a .live .now) (a .runs .now) (a .undo .now) = rw (le-leb (a .count) 4096 (c .before .before .if1 .left), le-leb (a .uncommitted) 16 (c .before .if2 .left), lt-leb (a .uncommitted + a .waiting) 64 (omega arith)) in
     g ∙ groups-sound (a .count) (a .largest) (a .uncommitted) (a .waiting) (a .live .now) (a .runs .now) (a .undo .now)
 
--- src/lib.rt:206:23
 add-live-ok : tie.Need-add-live-ok
 add-live-ok c = search needs
 
--- src/lib.rt:206:9
 live-ok-requires : tie.Need-live-ok-requires
 live-ok-requires c κs = search needs
 
--- src/lib.rt:207:9
 returns-4 : tie.Need-returns-4
 unfolding groups
 returns-4 c = let a = c .before .before .before .before .before .before .before .before .args in
@@ -56,11 +49,9 @@ returns-4 c = let a = c .before .before .before .before .before .before .before 
     let g : false ≡ groups (a .count) (a .largest) (a .uncommitted) (a .waiting) (a .live .now) (a .runs .now) (a .undo .now) = rw (le-leb (a .count) 4096 (c .before .before .before .before .if1 .left), le-leb (a .uncommitted) 16 (c .before .before .before .if2 .left), le-leb (a .uncommitted + a .waiting) 64 (omega arith), l) in
     g ∙ groups-sound (a .count) (a .largest) (a .uncommitted) (a .waiting) (a .live .now) (a .runs .now) (a .undo .now)
 
--- src/lib.rt:209:9
 members-ok-requires : tie.Need-members-ok-requires
 members-ok-requires c κs = search needs
 
--- src/lib.rt:210:9
 returns-5 : tie.Need-returns-5
 unfolding groups
 returns-5 c = let a = c .before .before .before .before .before .before .before .before .before .before .args in
@@ -69,15 +60,12 @@ returns-5 c = let a = c .before .before .before .before .before .before .before 
     let g : false ≡ groups (a .count) (a .largest) (a .uncommitted) (a .waiting) (a .live .now) (a .runs .now) (a .undo .now) = rw (le-leb (a .count) 4096 (c .before .before .before .before .before .before .if1 .left), le-leb (a .uncommitted) 16 (c .before .before .before .before .before .if2 .left), le-leb (a .uncommitted + a .waiting) 64 (omega arith), l, m) in
     g ∙ groups-sound (a .count) (a .largest) (a .uncommitted) (a .waiting) (a .live .now) (a .runs .now) (a .undo .now)
 
--- src/lib.rt:212:9
 total-requires : tie.Need-total-requires
 total-requires c κs = search needs
 
--- src/lib.rt:213:5
 undo-ok-requires : tie.Need-undo-ok-requires
 undo-ok-requires c κs = search needs
 
--- src/lib.rt:194:1
 returns-6 : tie.Need-returns-6
 unfolding groups
 returns-6 c = let a = c .before .before .before .before .before .before .before .before .before .before .before .before .args in

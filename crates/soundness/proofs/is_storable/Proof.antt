@@ -13,37 +13,29 @@ use Rattle.operations.proofs.is_inside.Reads as is-inside-reads
 use Rattle.record.proofs.fragment_at.Reads as fragment-at-reads
 use Rattle.soundness.proofs.storable_in.Reads as storable-in-reads
 
--- src/lib.rt:117:8
 add-if1 : tie.Need-add-if1
 add-if1 c = search needs
 
--- src/lib.rt:118:9
 storable-in-requires : tie.Need-storable-in-requires
 storable-in-requires c κs = search needs
 
--- src/lib.rt:118:9
 returns : tie.Need-returns
 returns c = search needs
 
--- src/lib.rt:120:9
 fragment-at-requires : tie.Need-fragment-at-requires
 fragment-at-requires c κs = search needs
 
--- src/lib.rt:121:9
 is-formed-requires : tie.Need-is-formed-requires
 is-formed-requires c κs = search needs
 
--- src/lib.rt:122:9
 returns-2 : tie.Need-returns-2
 returns-2 c = let a = c .before .before .before .before .before .args in
     let f : formed (fragmentAt (a .live .now) (a .b)) ≡ false = ap formed (sym (c .before .before .fragment-at .ensures)) ∙ sym (c .before .is-formed .ensures) ∙ not-true (c .before .is-formed .result) (c .if2 .taken) in
     rw f
 
--- src/lib.rt:124:5
 is-inside-requires : tie.Need-is-inside-requires
 is-inside-requires c κs = search needs
 
--- src/lib.rt:113:1
 returns-3 : tie.Need-returns-3
 returns-3 c = let a = c .before .before .before .before .before .before .args in
     let f : formed (fragmentAt (a .live .now) (a .b)) ≡ true = ap formed (sym (c .before .before .before .fragment-at .ensures)) ∙ sym (c .before .before .is-formed .ensures) ∙ not-false (c .before .before .is-formed .result) (c .before .if2 .left) in

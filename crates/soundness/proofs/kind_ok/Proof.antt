@@ -15,22 +15,18 @@ use Rattle.soundness.proofs.kind_ok.Lts as lts
 abbrev of : ℕ → ℕ → Fragment
 of flags coordinator = record { flags = flags; coordinator = coordinator; count = 0; row = [] }
 
--- src/lib.rt:75:13
 returns : tie.Need-returns
 unfolding multi
 returns c = kind-multi (of (c .before .before .args .flags) (c .before .before .args .coordinator)) _ (eq-eqb (c .before .before .args .flags % 2) 1 (c .before .if1 .taken)) (rw (lt-leb 1 (c .before .before .args .coordinator) (c .if2 .taken)))
 
--- src/lib.rt:77:9
 returns-2 : tie.Need-returns-2
 unfolding multi
 returns-2 c = kind-multi (of (c .before .before .args .flags) (c .before .before .args .coordinator)) _ (eq-eqb (c .before .before .args .flags % 2) 1 (c .before .if1 .taken)) (rw (le-leb 1 (c .before .before .args .coordinator) (c .if2 .left)))
 
--- src/lib.rt:80:9
 returns-3 : tie.Need-returns-3
 unfolding multi last
 returns-3 c = kind-single (of (c .before .before .args .flags) (c .before .before .args .coordinator)) _ (ne-eqb (c .before .before .args .flags % 2) 1 (c .before .if1 .left)) (let t : last (of (c .before .before .args .flags) (c .before .before .args .coordinator)) ≡ true = eq-eqb (c .before .before .args .flags / 2 % 2) 1 (c .if3 .taken) in rw t)
 
--- src/lib.rt:70:1
 returns-4 : tie.Need-returns-4
 unfolding multi last
 returns-4 c = kind-single (of (c .before .before .args .flags) (c .before .before .args .coordinator)) _ (ne-eqb (c .before .before .args .flags % 2) 1 (c .before .if1 .left)) (let t : last (of (c .before .before .args .flags) (c .before .before .args .coordinator)) ≡ false = ne-eqb (c .before .before .args .flags / 2 % 2) 1 (c .if3 .left) in rw t)

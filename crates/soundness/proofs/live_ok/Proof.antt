@@ -18,47 +18,37 @@ Inv-loop live n largest cells b₀ left₀ low₀ b left low = (b + 28 * left �
 abbrev μ-loop : tie.MeasureT-loop
 μ-loop live n largest cells b₀ left₀ low₀ b left low = left
 
--- src/lib.rt:32:5
 loop-holds : tie.Need-loop-holds Inv-loop μ-loop
 loop-holds c = (omega arith, omega arith, refl)
 
--- src/lib.rt:33:13
 row-ok-requires : tie.Need-row-ok-requires Inv-loop μ-loop
 row-ok-requires c κs = search needs
 
--- src/lib.rt:34:13
 returns : tie.Need-returns Inv-loop μ-loop
 returns c = let a = c .before .before .before .before .before .args in
     let l = c .before .before .before .loop in
     live-off (a .largest) (a .cells) (a .live .now) (l .b) (l .left) (l .low) _ (l .inv .2) (c .before .before .loop-test .taken) (sym (c .before .row-ok .ensures) ∙ not-true (c .before .row-ok .result) (c .if1 .taken))
 
--- src/lib.rt:36:43
 cast-number-at : tie.Need-cast-number-at Inv-loop μ-loop
 cast-number-at c = search needs
 
--- src/lib.rt:36:9
 number-at-requires : tie.Need-number-at-requires Inv-loop μ-loop
 number-at-requires c κs = search needs
 
--- src/lib.rt:37:13
 add-b : tie.Need-add-b Inv-loop μ-loop
 add-b c = omega arith
 
--- src/lib.rt:38:16
 sub-left : tie.Need-sub-left Inv-loop μ-loop
 sub-left c = search needs
 
--- src/lib.rt:32:5
 loop-less : tie.Need-loop-less Inv-loop μ-loop
 loop-less c = search needs
 
--- src/lib.rt:32:5
 loop-again : tie.Need-loop-again Inv-loop μ-loop
 loop-again c = let a = c .before .before .before .before .before .before .args in
     let l = c .before .before .before .before .loop in
     (omega arith, l .inv .1, live-on (a .largest) (a .cells) (a .live .now) (l .b) (l .left) (l .low) _ (l .inv .2) (c .before .before .before .loop-test .taken) (c .number-at .result) (c .number-at .ensures) (sym (c .before .before .row-ok .ensures) ∙ not-false (c .before .before .row-ok .result) (c .before .if1 .left)))
 
--- src/lib.rt:25:1
 returns-2 : tie.Need-returns-2 Inv-loop μ-loop
 returns-2 c = let a = c .before .before .before .args in
     let l = c .before .loop in

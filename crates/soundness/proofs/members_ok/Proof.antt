@@ -12,29 +12,23 @@ use Rattle.soundness.proofs.members_ok.Lts as lts
 use Rattle.soundness.proofs.behind_ok.Reads as behind-ok-reads
 use Rattle.soundness.proofs.front_ok.Reads as front-ok-reads
 
--- src/lib.rt:150:9
 returns : tie.Need-returns
 returns c = let a = c .before .before .before .args in
     members-none (a .live .now) (a .runs .now) (a .n) (c .if1 .taken)
 
--- src/lib.rt:152:9
 front-ok-requires : tie.Need-front-ok-requires
 front-ok-requires c κs = search needs
 
--- src/lib.rt:153:9
 returns-2 : tie.Need-returns-2
 returns-2 c = let a = c .before .before .before .before .before .args in
     ap (λ (x : Bool). x && behindFrom (a .live .now) 0 (a .runs .now) 0 (a .n - 1)) (sym (not-true (c .before .front-ok .result) (c .if2 .taken)) ∙ c .before .front-ok .ensures) ∙ members-some (a .live .now) (a .runs .now) (a .n) (c .before .before .if1 .left)
 
--- src/lib.rt:155:27
 sub-behind-ok : tie.Need-sub-behind-ok
 sub-behind-ok c = search needs
 
--- src/lib.rt:155:5
 behind-ok-requires : tie.Need-behind-ok-requires
 behind-ok-requires c κs = search needs
 
--- src/lib.rt:145:1
 returns-3 : tie.Need-returns-3
 returns-3 c = let a = c .before .before .before .before .before .before .args in
     c .behind-ok .ensures ∙ ap (λ (x : Bool). x && behindFrom (a .live .now) 0 (a .runs .now) 0 (a .n - 1)) (sym (not-false (c .before .before .front-ok .result) (c .before .if2 .left)) ∙ c .before .before .front-ok .ensures) ∙ members-some (a .live .now) (a .runs .now) (a .n) (c .before .before .before .if1 .left)

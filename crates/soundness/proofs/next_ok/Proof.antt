@@ -8,37 +8,29 @@ use Rattle.soundness.proofs.next_ok.Lts as lts
 use Rattle.operations.proofs.number_at.Reads as number-at-reads
 use Rattle.soundness.proofs.run_ok.Reads as run-ok-reads
 
--- src/lib.rt:110:9
 run-ok-requires : tie.Need-run-ok-requires
 run-ok-requires c κs = search needs
 
--- src/lib.rt:111:9
 returns : tie.Need-returns
 unfolding nextOk
 returns c = rw (← (c .before .run-ok .ensures), not-true (c .before .run-ok .result) (c .if1 .taken))
 
--- src/lib.rt:113:45
 add-number-at : tie.Need-add-number-at
 add-number-at c = search needs
 
--- src/lib.rt:113:9
 number-at-requires : tie.Need-number-at-requires
 number-at-requires c κs = search needs
 
--- src/lib.rt:115:9
 returns-2 : tie.Need-returns-2
 unfolding nextOk
 returns-2 c = rw (← (c .before .before .before .run-ok .ensures), not-false (c .before .before .before .run-ok .result) (c .before .before .if1 .left), ← (c .before .number-at .ensures), eq-eqb _ _ (c .if2 .taken))
 
--- src/lib.rt:117:45
 add-number-at-2 : tie.Need-add-number-at-2
 add-number-at-2 c = search needs
 
--- src/lib.rt:117:9
 number-at-requires-2 : tie.Need-number-at-requires-2
 number-at-requires-2 c κs = search needs
 
--- src/lib.rt:105:1
 returns-3 : tie.Need-returns-3
 unfolding nextOk
 returns-3 c = rw (← (c .before .before .before .before .run-ok .ensures), not-false (c .before .before .before .before .run-ok .result) (c .before .before .before .if1 .left), ← (c .before .before .number-at .ensures), ne-eqb _ _ (c .before .if2 .left), ← (c .number-at2 .ensures))

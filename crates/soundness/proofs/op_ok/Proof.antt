@@ -8,15 +8,12 @@ use Rattle.soundness.proofs.op_ok.Reads as reads
 use Rattle.soundness.proofs.op_ok.Lts as lts
 use Rattle.operations.proofs.is_formed_op.Reads as is-formed-op-reads
 
--- src/lib.rt:37:8
 is-formed-op-requires : tie.Need-is-formed-op-requires
 is-formed-op-requires c κs = search needs
 
--- src/lib.rt:34:1
 returns : tie.Need-returns
 returns c = let t : formedOp (c .before .before .before .args .o) ≡ true = sym (c .before .before .is-formed-op .ensures) ∙ c .before .if1 .taken in rw t
 
--- src/lib.rt:34:1
 returns-2 : tie.Need-returns-2
 returns-2 c = let t : formedOp (c .before .before .args .o) ≡ false = sym (c .before .is-formed-op .ensures) ∙ c .if1 .left in rw t
 

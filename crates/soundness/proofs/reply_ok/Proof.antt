@@ -7,46 +7,36 @@ use Rattle.soundness.proofs.reply_ok.Reads as reads
 use Rattle.soundness.proofs.reply_ok.Lts as lts
 use Rattle.operations.proofs.number_at.Reads as number-at-reads
 
--- src/lib.rt:48:45
 add-number-at : tie.Need-add-number-at
 add-number-at c = search needs
 
--- src/lib.rt:48:9
 number-at-requires : tie.Need-number-at-requires
 number-at-requires c κs = search needs
 
--- src/lib.rt:50:9
 returns : tie.Need-returns
 unfolding replyOk
 returns c = rw (← (c .before .number-at .ensures), eq-eqb _ _ (c .if1 .taken))
 
--- src/lib.rt:53:9
 returns-2 : tie.Need-returns-2
 unfolding replyOk
 returns-2 c = rw (← (c .before .before .number-at .ensures), ne-eqb _ _ (c .before .if1 .left), ne-eqb _ _ (c .if2 .taken))
 
--- src/lib.rt:55:45
 add-number-at-2 : tie.Need-add-number-at-2
 add-number-at-2 c = search needs
 
--- src/lib.rt:55:9
 number-at-requires-2 : tie.Need-number-at-requires-2
 number-at-requires-2 c κs = search needs
 
--- src/lib.rt:57:9
 returns-3 : tie.Need-returns-3
 unfolding replyOk
 returns-3 c = rw (← (c .before .before .before .before .number-at .ensures), ne-eqb _ _ (c .before .before .before .if1 .left), eq-eqb _ _ (c .before .before .if2 .left), ← (c .before .number-at2 .ensures), lt-leb _ _ (c .if3 .taken))
 
--- src/lib.rt:59:47
 add-number-at-3 : tie.Need-add-number-at-3
 add-number-at-3 c = search needs
 
--- src/lib.rt:59:9
 number-at-requires-3 : tie.Need-number-at-requires-3
 number-at-requires-3 c κs = search needs
 
--- src/lib.rt:44:1
 returns-4 : tie.Need-returns-4
 unfolding replyOk
 returns-4 c = rw (← (c .before .before .before .before .before .number-at .ensures), ne-eqb _ _ (c .before .before .before .before .if1 .left), eq-eqb _ _ (c .before .before .before .if2 .left), ← (c .before .before .number-at2 .ensures), le-leb _ _ (c .before .if3 .left), ← (c .number-at3 .ensures))

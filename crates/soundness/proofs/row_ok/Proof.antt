@@ -8,20 +8,16 @@ use Rattle.soundness.proofs.row_ok.Lts as lts
 use Rattle.operations.proofs.number_at.Reads as number-at-reads
 use Rattle.soundness.proofs.is_storable.Reads as is-storable-reads
 
--- src/lib.rt:131:9
 number-at-requires : tie.Need-number-at-requires
 number-at-requires c κs = search needs
 
--- src/lib.rt:133:9
 returns : tie.Need-returns
 unfolding rowOk
 returns c = rw (← (c .before .number-at .ensures), le-ltb _ _ (c .if1 .taken))
 
--- src/lib.rt:135:5
 is-storable-requires : tie.Need-is-storable-requires
 is-storable-requires c κs = search needs
 
--- src/lib.rt:128:1
 returns-2 : tie.Need-returns-2
 unfolding rowOk
 returns-2 c = rw (← (c .before .before .number-at .ensures), lt-ltb _ _ (c .before .if1 .left)) (c .is-storable .ensures)

@@ -8,55 +8,43 @@ use Rattle.soundness.proofs.run_ok.Lts as lts
 use Rattle.operations.proofs.number_at.Reads as number-at-reads
 use Rattle.soundness.proofs.reply_ok.Reads as reply-ok-reads
 
--- src/lib.rt:70:9
 number-at-requires : tie.Need-number-at-requires
 number-at-requires c κs = search needs
 
--- src/lib.rt:72:9
 returns : tie.Need-returns
 unfolding runOk
 returns c = rw (← (c .before .number-at .ensures), lt-leb _ _ (c .if1 .taken))
 
--- src/lib.rt:75:9
 returns-2 : tie.Need-returns-2
 unfolding runOk
 returns-2 c = rw (← (c .before .before .number-at .ensures), le-leb _ _ (c .before .if1 .left), lt-leb _ _ (c .if2 .taken))
 
--- src/lib.rt:77:45
 add-number-at : tie.Need-add-number-at
 add-number-at c = search needs
 
--- src/lib.rt:77:9
 number-at-requires-2 : tie.Need-number-at-requires-2
 number-at-requires-2 c κs = search needs
 
--- src/lib.rt:79:9
 returns-3 : tie.Need-returns-3
 unfolding runOk
 returns-3 c = rw (← (c .before .before .before .before .number-at .ensures), le-leb _ _ (c .before .before .before .if1 .left), le-leb _ _ (c .before .before .if2 .left), ← (c .before .number-at2 .ensures), lt-leb _ _ (c .if3 .taken))
 
--- src/lib.rt:81:47
 add-number-at-2 : tie.Need-add-number-at-2
 add-number-at-2 c = search needs
 
--- src/lib.rt:81:9
 number-at-requires-3 : tie.Need-number-at-requires-3
 number-at-requires-3 c κs = search needs
 
--- src/lib.rt:82:8
 mul-if4 : tie.Need-mul-if4
 mul-if4 c = search needs
 
--- src/lib.rt:83:9
 returns-4 : tie.Need-returns-4
 unfolding runOk
 returns-4 c = rw (← (c .before .before .before .before .before .before .number-at .ensures), le-leb _ _ (c .before .before .before .before .before .if1 .left), le-leb _ _ (c .before .before .before .before .if2 .left), ← (c .before .before .before .number-at2 .ensures), le-leb _ _ (c .before .before .if3 .left), ← (c .before .number-at3 .ensures), lt-leb _ _ (c .if4 .taken))
 
--- src/lib.rt:85:5
 reply-ok-requires : tie.Need-reply-ok-requires
 reply-ok-requires c κs = search needs
 
--- src/lib.rt:65:1
 returns-5 : tie.Need-returns-5
 unfolding runOk
 returns-5 c = rw (← (c .before .before .before .before .before .before .before .number-at .ensures), le-leb _ _ (c .before .before .before .before .before .before .if1 .left), le-leb _ _ (c .before .before .before .before .before .if2 .left), ← (c .before .before .before .before .number-at2 .ensures), le-leb _ _ (c .before .before .before .if3 .left), ← (c .before .before .number-at3 .ensures), le-leb _ _ (c .before .if4 .left)) (c .reply-ok .ensures)

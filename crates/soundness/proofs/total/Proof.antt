@@ -16,45 +16,35 @@ Inv-loop runs n c₀ left₀ sum₀ c left sum = (c + 16 * left ≡ 16 * n) × (
 abbrev μ-loop : tie.MeasureT-loop
 μ-loop runs n c₀ left₀ sum₀ c left sum = left
 
--- src/lib.rt:166:5
 loop-holds : tie.Need-loop-holds Inv-loop μ-loop
 loop-holds c = (omega arith, omega arith, omega arith, omega arith)
 
--- src/lib.rt:167:51
 add-number-at : tie.Need-add-number-at Inv-loop μ-loop
 add-number-at c = search needs
 
--- src/lib.rt:167:13
 number-at-requires : tie.Need-number-at-requires Inv-loop μ-loop
 number-at-requires c κs = search needs
 
--- src/lib.rt:168:21
 cast-sum : tie.Need-cast-sum Inv-loop μ-loop
 cast-sum c = search needs
 
--- src/lib.rt:168:15
 add-sum : tie.Need-add-sum Inv-loop μ-loop
 add-sum c = omega arith
 
--- src/lib.rt:169:13
 add-c : tie.Need-add-c Inv-loop μ-loop
 add-c c = search needs
 
--- src/lib.rt:170:16
 sub-left : tie.Need-sub-left Inv-loop μ-loop
 sub-left c = search needs
 
--- src/lib.rt:166:5
 loop-less : tie.Need-loop-less Inv-loop μ-loop
 loop-less c = search needs
 
--- src/lib.rt:166:5
 loop-again : tie.Need-loop-again Inv-loop μ-loop
 loop-again c = let a = c .before .before .before .before .args in
     let l = c .before .before .loop in
     (omega arith, l .inv .1, omega arith, total-on (a .runs .now) (l .c) (l .left) (l .sum) _ (l .inv .3) (c .before .loop-test .taken) (c .number-at .result) (c .number-at .ensures))
 
--- src/lib.rt:159:1
 returns : tie.Need-returns Inv-loop μ-loop
 returns c = let a = c .before .before .before .args in
     let l = c .before .loop in

@@ -16,39 +16,31 @@ Inv-loop undo n cells b₀ left₀ b left = (b + 2 * left ≡ 2 * n) × (n ≤ 6
 abbrev μ-loop : tie.MeasureT-loop
 μ-loop undo n cells b₀ left₀ b left = left
 
--- src/lib.rt:182:5
 loop-holds : tie.Need-loop-holds Inv-loop μ-loop
 loop-holds c = (omega arith, omega arith, refl)
 
--- src/lib.rt:183:13
 number-at-requires : tie.Need-number-at-requires Inv-loop μ-loop
 number-at-requires c κs = search needs
 
--- src/lib.rt:185:13
 returns : tie.Need-returns Inv-loop μ-loop
 returns c = let a = c .before .before .before .before .before .args in
     let l = c .before .before .before .loop in
     undo-off (a .cells) (a .undo .now) (l .b) (l .left) _ (l .inv .2) (c .before .before .loop-test .taken) (c .before .number-at .result) (c .before .number-at .ensures) (c .if1 .taken)
 
--- src/lib.rt:187:13
 add-b : tie.Need-add-b Inv-loop μ-loop
 add-b c = search needs
 
--- src/lib.rt:188:16
 sub-left : tie.Need-sub-left Inv-loop μ-loop
 sub-left c = search needs
 
--- src/lib.rt:182:5
 loop-less : tie.Need-loop-less Inv-loop μ-loop
 loop-less c = search needs
 
--- src/lib.rt:182:5
 loop-again : tie.Need-loop-again Inv-loop μ-loop
 loop-again c = let a = c .before .before .before .before .before .args in
     let l = c .before .before .before .loop in
     (omega arith, l .inv .1, undo-on (a .cells) (a .undo .now) (l .b) (l .left) _ (l .inv .2) (c .before .before .loop-test .taken) (c .before .number-at .result) (c .before .number-at .ensures) (c .if1 .left))
 
--- src/lib.rt:176:1
 returns-2 : tie.Need-returns-2 Inv-loop μ-loop
 returns-2 c = let a = c .before .before .before .args in
     let l = c .before .loop in

@@ -19,71 +19,55 @@ Inv-loop row b n cells at₀ left₀ at left = (left ≤ 8) × (at + 3 * left �
 abbrev μ-loop : tie.MeasureT-loop
 μ-loop row b n cells at₀ left₀ at left = left
 
--- src/lib.rt:51:5
 loop-holds : tie.Need-loop-holds Inv-loop μ-loop
 loop-holds c = (omega (arith, c .before .pre), omega (arith, c .before .pre), refl)
 
--- src/lib.rt:52:17
 mul-c : tie.Need-mul-c Inv-loop μ-loop
 mul-c c = search needs
 
--- src/lib.rt:52:17
 shared-slice-read-c : tie.Need-shared-slice-read-c Inv-loop μ-loop
 shared-slice-read-c c = search needs
 
--- src/lib.rt:53:21
 add-e : tie.Need-add-e Inv-loop μ-loop
 add-e c = search needs
 
--- src/lib.rt:53:17
 mul-e : tie.Need-mul-e Inv-loop μ-loop
 mul-e c = search needs
 
--- src/lib.rt:53:17
 shared-slice-read-e : tie.Need-shared-slice-read-e Inv-loop μ-loop
 shared-slice-read-e c = search needs
 
--- src/lib.rt:54:21
 add-v : tie.Need-add-v Inv-loop μ-loop
 add-v c = search needs
 
--- src/lib.rt:54:17
 mul-v : tie.Need-mul-v Inv-loop μ-loop
 mul-v c = search needs
 
--- src/lib.rt:54:17
 shared-slice-read-v : tie.Need-shared-slice-read-v Inv-loop μ-loop
 shared-slice-read-v c = search needs
 
--- src/lib.rt:60:13
 op-ok-requires : tie.Need-op-ok-requires Inv-loop μ-loop
 op-ok-requires c κs = search needs
 
--- src/lib.rt:61:13
 returns : tie.Need-returns Inv-loop μ-loop
 returns c = let l = c .before .before .before .before .before .before .loop in
     let a = c .before .before .before .before .before .before .before .before .args in
     used-off (a .cells) (a .row .now) (l .at) (l .left) _ (l .inv .2) (c .before .before .before .before .before .loop-test .taken) (sym (c .before .op-ok .ensures) ∙ not-true (c .before .op-ok .result) (c .if1 .taken))
 
--- src/lib.rt:63:14
 add-at : tie.Need-add-at Inv-loop μ-loop
 add-at c = search needs
 
--- src/lib.rt:64:16
 sub-left : tie.Need-sub-left Inv-loop μ-loop
 sub-left c = search needs
 
--- src/lib.rt:51:5
 loop-less : tie.Need-loop-less Inv-loop μ-loop
 loop-less c = search needs
 
--- src/lib.rt:51:5
 loop-again : tie.Need-loop-again Inv-loop μ-loop
 loop-again c = let l = c .before .before .before .before .before .before .loop in
     let a = c .before .before .before .before .before .before .before .before .args in
     (omega arith, omega arith, used-on (a .cells) (a .row .now) (l .at) (l .left) _ (l .inv .2) (c .before .before .before .before .before .loop-test .taken) (sym (c .before .op-ok .ensures) ∙ not-false (c .before .op-ok .result) (c .if1 .left)))
 
--- src/lib.rt:45:1
 returns-2 : tie.Need-returns-2 Inv-loop μ-loop
 returns-2 c = let l = c .before .loop in
     let a = c .before .before .before .args in

@@ -16,43 +16,33 @@ Inv-loop runs n sum₀ i₀ sum i = (i ≤ n) × (sum ≤ 4294967295 * i) × (su
 abbrev μ-loop : tie.MeasureT-loop
 μ-loop runs n sum₀ i₀ sum i = n - i
 
--- src/lib.rt:49:5
 loop-holds : tie.Need-loop-holds Inv-loop μ-loop
 loop-holds c = (search needs, search needs, sum-start (c .before .args .runs .now) (c .before .args .n))
 
--- src/lib.rt:50:47
 mul-number-at : tie.Need-mul-number-at Inv-loop μ-loop
 mul-number-at c = search needs
 
--- src/lib.rt:50:47
 add-number-at : tie.Need-add-number-at Inv-loop μ-loop
 add-number-at c = search needs
 
--- src/lib.rt:50:13
 number-at-requires : tie.Need-number-at-requires Inv-loop μ-loop
 number-at-requires c κs = search needs
 
--- src/lib.rt:51:21
 cast-sum : tie.Need-cast-sum Inv-loop μ-loop
 cast-sum c = search needs
 
--- src/lib.rt:51:15
 add-sum : tie.Need-add-sum Inv-loop μ-loop
 add-sum c = search needs
 
--- src/lib.rt:52:13
 add-i : tie.Need-add-i Inv-loop μ-loop
 add-i c = search needs
 
--- src/lib.rt:49:5
 loop-less : tie.Need-loop-less Inv-loop μ-loop
 loop-less c = search needs
 
--- src/lib.rt:49:5
 loop-again : tie.Need-loop-again Inv-loop μ-loop
 loop-again c = let l = c .before .before .loop in (omega arith, omega arith, sum-turn (c .before .before .before .before .args .runs .now) (c .before .before .before .before .args .n) (l .i) (l .sum) (c .number-at .result) _ (c .before .loop-test .taken) (c .number-at .ensures) (l .inv .2))
 
--- src/lib.rt:43:1
 returns : tie.Need-returns Inv-loop μ-loop
 returns c = let l = c .before .loop in sum-end (c .before .before .before .args .runs .now) (c .before .before .before .args .n) (l .i) (l .sum) _ (c .loop-test .left) (l .inv .2)
 

@@ -14,31 +14,24 @@ use Rattle.tidy.proofs.tidy_run.Lts as lts
 use Rattle.record.proofs.lay.Reads as lay-reads
 use Rattle.tidy.proofs.used_at.Reads as used-at-reads
 
--- src/lib.rt:26:9
 used-at-requires : tie.Need-used-at-requires
 used-at-requires c κs = search needs
 
--- src/lib.rt:27:23
 add-lay : tie.Need-add-lay
 add-lay c = omega (arith, c .before .before .before .before .pre, c .before .used-at .ensures, used-most (c .before .before .before .before .args .runs .now) (c .before .before .before .before .args .at))
 
--- src/lib.rt:27:31
 slice-aggregate-lay : tie.Need-slice-aggregate-lay
 slice-aggregate-lay c = search needs
 
--- src/lib.rt:27:39
 sub-lay : tie.Need-sub-lay
 sub-lay c = omega (arith, c .before .before .used-at .ensures, used-most (c .before .before .before .before .before .args .runs .now) (c .before .before .before .before .before .args .at))
 
--- src/lib.rt:27:5
 lay-requires : tie.Need-lay-requires
 lay-requires c κs = search needs
 
--- src/lib.rt:21:1
 same-length : tie.Need-same-length
 same-length c = search needs
 
--- src/lib.rt:21:1
 returns : tie.Need-returns
 unfolding tidyRun
 returns c = c .before .before .lay .ensures ∙ ap (λ (k : ℕ). sets (c .before .before .before .before .before .before .before .before .args .runs .now) (c .before .before .before .before .before .before .before .before .args .at + k) (numbersFrom (replicate 16 0) 0 (16 - k))) (c .before .before .before .before .before .used-at .ensures)

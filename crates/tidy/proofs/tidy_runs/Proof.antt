@@ -17,35 +17,27 @@ Inv-loop runs₀ n i₀ runs i = (i ≤ n) × (length runs ≡ length runs₀) �
 abbrev μ-loop : tie.MeasureT-loop
 μ-loop runs₀ n i₀ runs i = n - i
 
--- src/lib.rt:36:5
 loop-holds : tie.Need-loop-holds Inv-loop μ-loop
 loop-holds c = (search needs, refl, runs-start (c .before .args .runs .now) (c .before .args .n))
 
--- src/lib.rt:37:24
 mul-tidy-run : tie.Need-mul-tidy-run Inv-loop μ-loop
 mul-tidy-run c = search needs
 
--- src/lib.rt:37:9
 tidy-run-requires : tie.Need-tidy-run-requires Inv-loop μ-loop
 tidy-run-requires c κs = search needs
 
--- src/lib.rt:38:13
 add-i : tie.Need-add-i Inv-loop μ-loop
 add-i c = search needs
 
--- src/lib.rt:36:5
 loop-less : tie.Need-loop-less Inv-loop μ-loop
 loop-less c = search needs
 
--- src/lib.rt:36:5
 loop-again : tie.Need-loop-again Inv-loop μ-loop
 loop-again c = let l = c .before .before .before .before .before .loop in (omega arith, c .before .before .tidy-run .kept .0 ∙ l .inv .1, runs-turn (l .runs) (c .before .before .tidy-run .last .0) _ (c .before .before .before .before .before .before .before .args .n) (l .i) (c .before .before .before .before .loop-test .taken) (c .before .before .tidy-run .ensures) (l .inv .2))
 
--- src/lib.rt:31:1
 same-length : tie.Need-same-length Inv-loop μ-loop
 same-length c = c .before .loop .inv .1
 
--- src/lib.rt:31:1
 returns : tie.Need-returns Inv-loop μ-loop
 returns c = let l = c .before .loop in runs-end (l .runs) _ (c .before .before .before .args .n) (l .i) (c .loop-test .left) (l .inv .2)
 

@@ -8,35 +8,27 @@ use Rattle.tidy.proofs.used_at.Reads as reads
 use Rattle.tidy.proofs.used_at.Lts as lts
 use Rattle.operations.proofs.number_at.Reads as number-at-reads
 
--- src/lib.rt:12:45
 add-number-at : tie.Need-add-number-at
 add-number-at c = search needs
 
--- src/lib.rt:12:9
 number-at-requires : tie.Need-number-at-requires
 number-at-requires c κs = search needs
 
--- src/lib.rt:14:9
 returns : tie.Need-returns
 returns c = sym (used-sent (c .before .before .before .args .runs .now) (c .before .before .before .args .at) (λ e. c .if1 .taken (c .before .number-at .ensures ∙ e)))
 
--- src/lib.rt:16:45
 add-number-at-2 : tie.Need-add-number-at-2
 add-number-at-2 c = search needs
 
--- src/lib.rt:16:9
 number-at-requires-2 : tie.Need-number-at-requires-2
 number-at-requires-2 c κs = search needs
 
--- src/lib.rt:17:20
 add-result : tie.Need-add-result
 add-result c = search needs
 
--- src/lib.rt:8:1
 returns-2 : tie.Need-returns-2
 returns-2 c = omega (arith, used-held (c .before .before .before .before .before .args .runs .now) (c .before .before .before .before .before .args .at) (sym (c .before .before .before .number-at .ensures) ∙ c .before .before .if1 .left), c .before .number-at2 .ensures, c .if2 .taken)
 
--- src/lib.rt:8:1
 returns-3 : tie.Need-returns-3
 returns-3 c = omega (arith, used-held (c .before .before .before .before .before .args .runs .now) (c .before .before .before .before .before .args .at) (sym (c .before .before .before .number-at .ensures) ∙ c .before .before .if1 .left), c .before .number-at2 .ensures, c .if2 .left)
 

@@ -7,19 +7,15 @@ use Rattle.trace.proofs.byte_at.Tie as tie
 use Rattle.trace.proofs.byte_at.Reads as reads
 use Rattle.trace.proofs.byte_at.Lts as lts
 
--- src/lib.rt:28:9
 shared-slice-read-result : tie.Need-shared-slice-read-result
 shared-slice-read-result c = search needs
 
--- src/lib.rt:28:9
 cast-result : tie.Need-cast-result
 cast-result c = omega (arith, c .shared-slice-known .given (c .before .before .args .i))
 
--- src/lib.rt:24:1
 returns : tie.Need-returns
 returns c = (refl, omega (arith, c .shared-slice-known .given (c .before .before .args .i)))
 
--- src/lib.rt:24:1
 returns-2 : tie.Need-returns-2
 returns-2 c = (sym (List·getD-eq-default (c .before .args .bytes .now) 0 (c .if1 .left)), omega arith)
 

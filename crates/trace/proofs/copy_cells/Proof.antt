@@ -19,41 +19,32 @@ Inv-loop bytes count cells₀ i₀ cells i = (i ≤ count) × (length cells ≡ 
 abbrev μ-loop : tie.MeasureT-loop
 μ-loop bytes count cells₀ i₀ cells i = count - i
 
--- src/lib.rt:139:5
 loop-holds : tie.Need-loop-holds Inv-loop μ-loop
 loop-holds c = let a = c .before .before .args in (search needs, refl, copy-start (a .cells .now) (a .bytes .now) (a .count))
 
--- src/lib.rt:140:32
 add-word-at : tie.Need-add-word-at Inv-loop μ-loop
 add-word-at c = search needs
 
--- src/lib.rt:140:13
 word-at-requires : tie.Need-word-at-requires Inv-loop μ-loop
 word-at-requires c κs = search needs
 
--- src/lib.rt:141:9
 put-at-requires : tie.Need-put-at-requires Inv-loop μ-loop
 put-at-requires c κs = search needs
 
--- src/lib.rt:142:13
 add-i : tie.Need-add-i Inv-loop μ-loop
 add-i c = search needs
 
--- src/lib.rt:139:5
 loop-less : tie.Need-loop-less Inv-loop μ-loop
 loop-less c = search needs
 
--- src/lib.rt:139:5
 loop-again : tie.Need-loop-again Inv-loop μ-loop
 loop-again c = let l = c .before .before .before .before .before .before .loop in
     let a = c .before .before .before .before .before .before .before .before .before .args in
     (omega arith, c .before .before .put-at .kept .0 ∙ l .inv .1, copy-turn (l .cells) (c .before .before .put-at .last .0) (a .bytes .now) _ (a .count) (l .i) _ (c .before .before .before .before .before .loop-test .taken) (c .before .before .before .before .word-at .ensures) (c .before .before .put-at .ensures) (l .inv .2))
 
--- src/lib.rt:135:1
 same-length : tie.Need-same-length Inv-loop μ-loop
 same-length c = c .before .loop .inv .1
 
--- src/lib.rt:135:1
 returns : tie.Need-returns Inv-loop μ-loop
 returns c = let l = c .before .loop in
     let a = c .before .before .before .before .args in

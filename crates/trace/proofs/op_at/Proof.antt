@@ -5,27 +5,21 @@ use Rattle.trace.proofs.op_at.Reads as reads
 use Rattle.trace.proofs.op_at.Lts as lts
 use Rattle.trace.proofs.word_at.Reads as word-at-reads
 
--- src/lib.rt:92:9
 word-at-requires : tie.Need-word-at-requires
 word-at-requires c κs = search needs
 
--- src/lib.rt:93:28
 add-word-at : tie.Need-add-word-at
 add-word-at c = search needs
 
--- src/lib.rt:93:9
 word-at-requires-2 : tie.Need-word-at-requires-2
 word-at-requires-2 c κs = search needs
 
--- src/lib.rt:94:28
 add-word-at-2 : tie.Need-add-word-at-2
 add-word-at-2 c = search needs
 
--- src/lib.rt:94:9
 word-at-requires-3 : tie.Need-word-at-requires-3
 word-at-requires-3 c κs = search needs
 
--- src/lib.rt:88:1
 returns : tie.Need-returns
 returns c = λ i. record { code = c .before .before .word-at .ensures i; cell = c .before .word-at2 .ensures i; amount = c .word-at3 .ensures i }
 

@@ -12,23 +12,18 @@ Inv-loop n k₀ m₀ k m = Counting n k m
 abbrev μ-loop : tie.MeasureT-loop
 μ-loop n k₀ m₀ k m = m
 
--- src/lib.rt:161:5
 loop-holds : tie.Need-loop-holds Inv-loop μ-loop
 loop-holds c = counting-start (c .args .n) (omega arith)
 
--- src/lib.rt:163:13
 add-k : tie.Need-add-k Inv-loop μ-loop
 add-k c = omega (arith, c .before .loop .inv .sum)
 
--- src/lib.rt:161:5
 loop-less : tie.Need-loop-less Inv-loop μ-loop
 loop-less c = omega arith
 
--- src/lib.rt:161:5
 loop-again : tie.Need-loop-again Inv-loop μ-loop
 loop-again c = counting-turn (c .before .before .args .n) (c .before .loop .k) (c .before .loop .m) (c .loop-test .taken) (c .before .loop .inv)
 
--- src/lib.rt:156:1
 returns : tie.Need-returns Inv-loop μ-loop
 returns c = counting-end (c .before .before .args .n) (c .before .loop .k) (c .before .loop .m) (c .loop-test .left) (c .before .loop .inv)
 

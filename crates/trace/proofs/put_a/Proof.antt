@@ -7,49 +7,38 @@ use Rattle.trace.proofs.put_a.Lts as lts
 use Rattle.operations.proofs.number_at.Reads as number-at-reads
 use Rattle.trace.proofs.put_line.Reads as put-line-reads
 
--- src/lib.rt:238:13
 mul-b : tie.Need-mul-b
 mul-b c = search needs
 
--- src/lib.rt:239:45
 add-number-at : tie.Need-add-number-at
 add-number-at c = search needs
 
--- src/lib.rt:239:9
 number-at-requires : tie.Need-number-at-requires
 number-at-requires c κs = search needs
 
--- src/lib.rt:241:56
 cast-put-line : tie.Need-cast-put-line
 cast-put-line c = search needs
 
--- src/lib.rt:241:52
 add-put-line : tie.Need-add-put-line
 add-put-line c = search needs
 
--- src/lib.rt:241:9
 put-line-requires : tie.Need-put-line-requires
 put-line-requires c κs = search needs
 
--- src/lib.rt:241:9
 same-length : tie.Need-same-length
 same-length c = search needs
 
--- src/lib.rt:241:9
 returns : tie.Need-returns
 returns c = let a = c .before .before .before .before .before .before .before .before .args in
     let p = c .before .before .put-line in
     named (a .buffer .now) (p .last .0) _ _ (a .at) (p .result) (answer-few (a .room .now) (a .i) (c .before .before .before .before .before .number-at .result) (c .before .before .before .before .before .number-at .ensures) (c .before .before .before .before .if1 .taken)) (p .ensures .0) (p .ensures .1)
 
--- src/lib.rt:243:5
 put-line-requires-2 : tie.Need-put-line-requires-2
 put-line-requires-2 c κs = search needs
 
--- src/lib.rt:234:1
 same-length-2 : tie.Need-same-length-2
 same-length-2 c = search needs
 
--- src/lib.rt:234:1
 returns-2 : tie.Need-returns-2
 returns-2 c = let a = c .before .before .before .before .before .before .before .before .args in
     let p = c .before .before .put-line2 in

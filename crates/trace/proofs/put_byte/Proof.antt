@@ -6,19 +6,15 @@ use Rattle.trace.proofs.put_byte.Tie as tie
 use Rattle.trace.proofs.put_byte.Reads as reads
 use Rattle.trace.proofs.put_byte.Lts as lts
 
--- src/lib.rt:151:9
 slice-write-buffer : tie.Need-slice-write-buffer
 slice-write-buffer c = search needs
 
--- src/lib.rt:147:1
 same-length : tie.Need-same-length
 same-length c = search needs
 
--- src/lib.rt:147:1
 returns : tie.Need-returns
 returns c = search needs
 
--- src/lib.rt:147:1
 returns-2 : tie.Need-returns-2
 returns-2 c = sym (set-out _ _ _ (c .if1 .left))
 

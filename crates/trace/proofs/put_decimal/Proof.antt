@@ -20,54 +20,42 @@ Inv-loop buffer₀ at n k i₀ m₀ buffer i m = (i ≤ 10) × (length buffer �
 abbrev μ-loop : tie.MeasureT-loop
 μ-loop buffer₀ at n k i₀ m₀ buffer i m = i
 
--- src/lib.rt:174:9
 places-requires : tie.Need-places-requires Inv-loop μ-loop
 places-requires c κs = search needs
 
--- src/lib.rt:177:5
 loop-holds : tie.Need-loop-holds Inv-loop μ-loop
 loop-holds c = let a = c .before .before .args in
     (omega (arith, c .places .ensures, length-decimal (a .n)), refl, digits-start (a .buffer .now) (a .at) (c .places .result) (a .n) (c .places .ensures))
 
--- src/lib.rt:178:13
 sub-i : tie.Need-sub-i Inv-loop μ-loop
 sub-i c = search needs
 
--- src/lib.rt:179:26
 add-put-byte : tie.Need-add-put-byte Inv-loop μ-loop
 add-put-byte c = omega (arith, c .before .before .before .before .before .pre)
 
--- src/lib.rt:179:35
 add-put-byte-2 : tie.Need-add-put-byte-2 Inv-loop μ-loop
 add-put-byte-2 c = omega arith
 
--- src/lib.rt:179:34
 cast-put-byte : tie.Need-cast-put-byte Inv-loop μ-loop
 cast-put-byte c = omega arith
 
--- src/lib.rt:179:9
 put-byte-requires : tie.Need-put-byte-requires Inv-loop μ-loop
 put-byte-requires c κs = search needs
 
--- src/lib.rt:177:5
 loop-less : tie.Need-loop-less Inv-loop μ-loop
 loop-less c = omega arith
 
--- src/lib.rt:177:5
 loop-again : tie.Need-loop-again Inv-loop μ-loop
 loop-again c = let l = c .before .before .before .before .before .loop in
     let a = c .before .before .before .before .before .before .before .before .args in
     (omega arith, c .before .before .put-byte .kept .0 ∙ l .inv .1, digits-turn (l .buffer) (c .before .before .put-byte .last .0) _ (a .at) (l .i) (l .m) (c .before .before .before .before .loop-test .taken) (c .before .before .put-byte .ensures) (l .inv .2))
 
--- src/lib.rt:182:5
 add-result : tie.Need-add-result Inv-loop μ-loop
 add-result c = omega (arith, c .before .before .places .ensures, length-decimal (c .before .before .before .before .args .n))
 
--- src/lib.rt:169:1
 same-length : tie.Need-same-length Inv-loop μ-loop
 same-length c = c .before .loop .inv .1
 
--- src/lib.rt:169:1
 returns : tie.Need-returns Inv-loop μ-loop
 returns c = let l = c .before .loop in
     let a = c .before .before .before .before .args in

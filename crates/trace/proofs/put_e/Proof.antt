@@ -6,19 +6,15 @@ use Rattle.trace.proofs.put_e.Reads as reads
 use Rattle.trace.proofs.put_e.Lts as lts
 use Rattle.trace.proofs.put_line.Reads as put-line-reads
 
--- src/lib.rt:229:32
 slice-aggregate-put-line : tie.Need-slice-aggregate-put-line
 slice-aggregate-put-line c = search needs
 
--- src/lib.rt:229:5
 put-line-requires : tie.Need-put-line-requires
 put-line-requires c κs = search needs
 
--- src/lib.rt:224:1
 same-length : tie.Need-same-length
 same-length c = search needs
 
--- src/lib.rt:224:1
 returns : tie.Need-returns
 unfolding lineE
 returns c = (c .before .before .put-line .ensures .0, c .before .before .put-line .ensures .1)

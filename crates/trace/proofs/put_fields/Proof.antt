@@ -23,40 +23,31 @@ Inv-loop buffer₀ at row from count p₀ j₀ buffer p j =
 abbrev μ-loop : tie.MeasureT-loop
 μ-loop buffer₀ at row from count p₀ j₀ buffer p j = count - j
 
--- src/lib.rt:201:5
 loop-holds : tie.Need-loop-holds Inv-loop μ-loop
 loop-holds c = let a = c .before .before .args in
     (omega arith, omega arith, refl, fields-first (a .row .now) (a .from) (a .count) (a .at), fields-start (a .row .now) (a .buffer .now) (a .from) (a .count) (a .at))
 
--- src/lib.rt:202:44
 add-number-at : tie.Need-add-number-at Inv-loop μ-loop
 add-number-at c = omega (arith, c .before .before .before .before .pre)
 
--- src/lib.rt:202:13
 number-at-requires : tie.Need-number-at-requires Inv-loop μ-loop
 number-at-requires c κs = search needs
 
--- src/lib.rt:203:9
 put-byte-requires : tie.Need-put-byte-requires Inv-loop μ-loop
 put-byte-requires c κs = search needs
 
--- src/lib.rt:204:33
 add-put-decimal : tie.Need-add-put-decimal Inv-loop μ-loop
 add-put-decimal c = omega (arith, c .before .before .before .before .before .before .before .before .before .before .pre, c .before .before .before .before .before .before .before .loop .inv .0, c .before .before .before .before .before .before .before .loop .inv .1)
 
--- src/lib.rt:204:9
 put-decimal-requires : tie.Need-put-decimal-requires Inv-loop μ-loop
 put-decimal-requires c κs = omega (arith, c .before .before .before .before .before .before .before .before .before .before .pre, c .before .before .before .before .before .before .before .loop .inv .0, c .before .before .before .before .before .before .before .loop .inv .1)
 
--- src/lib.rt:205:13
 add-j : tie.Need-add-j Inv-loop μ-loop
 add-j c = search needs
 
--- src/lib.rt:201:5
 loop-less : tie.Need-loop-less Inv-loop μ-loop
 loop-less c = search needs
 
--- src/lib.rt:201:5
 loop-again : tie.Need-loop-again Inv-loop μ-loop
 loop-again c = let l = c .before .before .before .before .before .before .before .before .before .before .loop in
     let a = c .before .before .before .before .before .before .before .before .before .before .before .before .before .args in
@@ -71,11 +62,9 @@ loop-again c = let l = c .before .before .before .before .before .before .before
       fields-turn (a .row .now) (a .from) (a .count) (l .j) (l .p) (v .result) h (v .ensures) (l .buffer) (w .last .0) (d .last .0) _ (d .result) (w .ensures) (d .ensures .1) (d .ensures .0) (l .inv .4),
     )
 
--- src/lib.rt:194:1
 same-length : tie.Need-same-length Inv-loop μ-loop
 same-length c = c .before .loop .inv .2
 
--- src/lib.rt:194:1
 returns : tie.Need-returns Inv-loop μ-loop
 returns c = let l = c .before .loop in
     let a = c .before .before .before .before .args in

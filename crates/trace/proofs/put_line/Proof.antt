@@ -8,31 +8,24 @@ use Rattle.trace.proofs.put_line.Lts as lts
 use Rattle.trace.proofs.put_byte.Reads as put-byte-reads
 use Rattle.trace.proofs.put_fields.Reads as put-fields-reads
 
--- src/lib.rt:217:5
 put-byte-requires : tie.Need-put-byte-requires
 put-byte-requires c κs = search needs
 
--- src/lib.rt:218:32
 add-put-fields : tie.Need-add-put-fields
 add-put-fields c = search needs
 
--- src/lib.rt:218:9
 put-fields-requires : tie.Need-put-fields-requires
 put-fields-requires c κs = search needs
 
--- src/lib.rt:219:5
 put-byte-requires-2 : tie.Need-put-byte-requires-2
 put-byte-requires-2 c κs = search needs
 
--- src/lib.rt:220:5
 add-result : tie.Need-add-result
 add-result c = let a = c .before .before .before .before .before .before .before .before .before .before .before .before .before .before .args in omega (arith, c .before .before .before .before .before .before .put-fields .ensures .0, length-fields (a .row .now) (a .from) (a .count), c .before .before .before .before .before .before .before .before .before .before .before .before .before .before .pre, c .before .before .before .before .before .before .before .before .before .before .before .before .before .before .fits)
 
--- src/lib.rt:211:1
 same-length : tie.Need-same-length
 same-length c = search needs
 
--- src/lib.rt:211:1
 returns : tie.Need-returns
 returns c = let a = c .before .before .before .before .before .before .before .before .before .before .before .before .before .before .args in
     let f = c .before .before .before .before .before .before .put-fields in

@@ -17,45 +17,35 @@ Inv-loop buffer₀ at text start i₀ buffer i = (i ≤ length text) × (length 
 abbrev μ-loop : tie.MeasureT-loop
 μ-loop buffer₀ at text start i₀ buffer i = length text - i
 
--- src/lib.rt:263:5
 loop-holds : tie.Need-loop-holds Inv-loop μ-loop
 loop-holds c = let a = c .before .before .args in (search needs, refl, text-start (a .buffer .now) (a .text .now) (a .at))
 
--- src/lib.rt:264:26
 add-put-byte : tie.Need-add-put-byte Inv-loop μ-loop
 add-put-byte c = search needs
 
--- src/lib.rt:264:37
 shared-slice-read-put-byte : tie.Need-shared-slice-read-put-byte Inv-loop μ-loop
 shared-slice-read-put-byte c = search needs
 
--- src/lib.rt:264:9
 put-byte-requires : tie.Need-put-byte-requires Inv-loop μ-loop
 put-byte-requires c κs = search needs
 
--- src/lib.rt:265:13
 add-i : tie.Need-add-i Inv-loop μ-loop
 add-i c = search needs
 
--- src/lib.rt:263:5
 loop-less : tie.Need-loop-less Inv-loop μ-loop
 loop-less c = search needs
 
--- src/lib.rt:263:5
 loop-again : tie.Need-loop-again Inv-loop μ-loop
 loop-again c = let l = c .before .before .before .before .before .before .loop in
     let a = c .before .before .before .before .before .before .before .before .before .args in
     (omega arith, c .before .before .put-byte .kept .0 ∙ l .inv .1, text-turn (l .buffer) (c .before .before .put-byte .last .0) (a .text .now) _ (a .at) (l .i) _ (c .before .before .before .before .before .loop-test .taken) refl (c .before .before .put-byte .ensures) (l .inv .2))
 
--- src/lib.rt:267:5
 add-result : tie.Need-add-result Inv-loop μ-loop
 add-result c = search needs
 
--- src/lib.rt:256:1
 same-length : tie.Need-same-length Inv-loop μ-loop
 same-length c = c .before .loop .inv .1
 
--- src/lib.rt:256:1
 returns : tie.Need-returns Inv-loop μ-loop
 returns c = let l = c .before .loop in
     let a = c .before .before .before .before .args in

@@ -7,75 +7,57 @@ use Rattle.trace.proofs.word_at.Reads as reads
 use Rattle.trace.proofs.word_at.Lts as lts
 use Rattle.trace.proofs.byte_at.Reads as byte-at-reads
 
--- src/lib.rt:39:29
 mul-byte-at : tie.Need-mul-byte-at
 mul-byte-at c = search needs
 
--- src/lib.rt:39:9
 byte-at-requires : tie.Need-byte-at-requires
 byte-at-requires c κs = search needs
 
--- src/lib.rt:40:29
 mul-byte-at-2 : tie.Need-mul-byte-at-2
 mul-byte-at-2 c = search needs
 
--- src/lib.rt:40:29
 add-byte-at : tie.Need-add-byte-at
 add-byte-at c = search needs
 
--- src/lib.rt:40:9
 byte-at-requires-2 : tie.Need-byte-at-requires-2
 byte-at-requires-2 c κs = search needs
 
--- src/lib.rt:41:29
 mul-byte-at-3 : tie.Need-mul-byte-at-3
 mul-byte-at-3 c = search needs
 
--- src/lib.rt:41:29
 add-byte-at-2 : tie.Need-add-byte-at-2
 add-byte-at-2 c = search needs
 
--- src/lib.rt:41:9
 byte-at-requires-3 : tie.Need-byte-at-requires-3
 byte-at-requires-3 c κs = search needs
 
--- src/lib.rt:42:29
 mul-byte-at-4 : tie.Need-mul-byte-at-4
 mul-byte-at-4 c = search needs
 
--- src/lib.rt:42:29
 add-byte-at-3 : tie.Need-add-byte-at-3
 add-byte-at-3 c = search needs
 
--- src/lib.rt:42:9
 byte-at-requires-4 : tie.Need-byte-at-requires-4
 byte-at-requires-4 c κs = search needs
 
--- src/lib.rt:43:10
 mul-result : tie.Need-mul-result
 mul-result c = search needs
 
--- src/lib.rt:43:5
 add-result : tie.Need-add-result
 add-result c = search needs
 
--- src/lib.rt:43:21
 mul-result-2 : tie.Need-mul-result-2
 mul-result-2 c = search needs
 
--- src/lib.rt:43:5
 add-result-2 : tie.Need-add-result-2
 add-result-2 c = search needs
 
--- src/lib.rt:43:34
 mul-result-3 : tie.Need-mul-result-3
 mul-result-3 c = search needs
 
--- src/lib.rt:43:5
 add-result-3 : tie.Need-add-result-3
 add-result-3 c = search needs
 
--- src/lib.rt:35:1
 returns : tie.Need-returns
 unfolding wordAt
 returns c = λ k. c .before .before .before .byte-at .ensures .0 k + 256 * c .before .before .byte-at2 .ensures .0 k + 65536 * c .before .byte-at3 .ensures .0 k + 16777216 * c .byte-at4 .ensures .0 k

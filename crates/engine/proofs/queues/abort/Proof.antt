@@ -12,51 +12,39 @@ use Rattle.engine.proofs.queues.Counts.requeues.Reads as requeues-reads
 use Rattle.operations.proofs.undo.Reads as undo-reads
 use Rattle.record.proofs.shift.Reads as shift-reads
 
--- src/queues.rt:611:5
 undo-requires : tie.Need-undo-requires
 undo-requires c κs = search needs
 
--- src/queues.rt:612:25
 mul-shift : tie.Need-mul-shift
 mul-shift c = search needs
 
--- src/queues.rt:612:45
 mul-shift-2 : tie.Need-mul-shift-2
 mul-shift-2 c = search needs
 
--- src/queues.rt:612:5
 shift-requires : tie.Need-shift-requires
 shift-requires c κs = search needs
 
--- src/queues.rt:613:25
 mul-shift-3 : tie.Need-mul-shift-3
 mul-shift-3 c = search needs
 
--- src/queues.rt:613:40
 mul-shift-4 : tie.Need-mul-shift-4
 mul-shift-4 c = search needs
 
--- src/queues.rt:613:5
 shift-requires-2 : tie.Need-shift-requires-2
 shift-requires-2 c κs = search needs
 
--- src/queues.rt:614:5
 requeues-requires : tie.Need-requeues-requires
 requeues-requires c κs = search needs
 
--- src/queues.rt:605:1
 same-length : tie.Need-same-length
 same-length c = search needs
 
--- src/queues.rt:605:1
 same-length-2 : tie.Need-same-length-2
 same-length-2 c = search needs
 
--- src/queues.rt:605:1
 same-length-3 : tie.Need-same-length-3
 same-length-3 c = search needs
 
--- src/queues.rt:605:1
 returns : tie.Need-returns
 returns c = let a = c .before .before .before .before .before .before .before .before .before .before .before .before .before .before .before .before .before .before .before .before .before .args in
     let p = c .before .before .before .before .before .before .before .before .before .before .before .before .before .before .before .before .before .before .before .before .before .pre in (

@@ -5,23 +5,18 @@ use Rattle.engine.proofs.queues.answer_if.Reads as reads
 use Rattle.engine.proofs.queues.answer_if.Lts as lts
 use Rattle.engine.proofs.queues.put_answer.Reads as put-answer-reads
 
--- src/lib.rt:201:9
 put-answer-requires : tie.Need-put-answer-requires
 put-answer-requires c κs = search needs
 
--- src/lib.rt:202:9
 add-result : tie.Need-add-result
 add-result c = search needs
 
--- src/lib.rt:195:1
 same-length : tie.Need-same-length
 same-length c = search needs
 
--- src/lib.rt:195:1
 returns : tie.Need-returns
 returns c = (rw (c .before .before .before .before .if1 .taken), rw (c .before .before .before .before .if1 .taken) (c .before .before .put-answer .ensures))
 
--- src/lib.rt:195:1
 returns-2 : tie.Need-returns-2
 returns-2 c = search needs
 

@@ -10,39 +10,30 @@ use Rattle.engine.proofs.queues.answer_row.Tie as tie
 use Rattle.engine.proofs.queues.answer_row.Reads as reads
 use Rattle.engine.proofs.queues.answer_row.Lts as lts
 
--- src/lib.rt:35:9
 array-read-t9 : tie.Need-array-read-t9
 array-read-t9 c = search needs
 
--- src/lib.rt:36:9
 array-read-t12 : tie.Need-array-read-t12
 array-read-t12 c = search needs
 
--- src/lib.rt:37:9
 array-read-t15 : tie.Need-array-read-t15
 array-read-t15 c = search needs
 
--- src/lib.rt:38:9
 array-read-t18 : tie.Need-array-read-t18
 array-read-t18 c = search needs
 
--- src/lib.rt:39:9
 array-read-t21 : tie.Need-array-read-t21
 array-read-t21 c = search needs
 
--- src/lib.rt:40:9
 array-read-t24 : tie.Need-array-read-t24
 array-read-t24 c = search needs
 
--- src/lib.rt:41:9
 array-read-t27 : tie.Need-array-read-t27
 array-read-t27 c = search needs
 
--- src/lib.rt:42:9
 array-read-t30 : tie.Need-array-read-t30
 array-read-t30 c = search needs
 
--- src/lib.rt:27:1
 returns : tie.Need-returns
 returns c = let e : length (c .args .t5) ≡ 8 = search needs in ap {B = List ℕ} (λ (x : List ℕ). answerRow (c .args .number) (c .args .dependence) (c .args .place) (c .args .count) x) (eight-numbers (c .args .t5) e)
 

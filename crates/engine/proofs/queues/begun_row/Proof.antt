@@ -11,23 +11,18 @@ use Rattle.engine.proofs.queues.begun_row.Lts as lts
 use Rattle.engine.proofs.queues.run_row.Reads as run-row-reads
 use Rattle.engine.proofs.queues.state_after.Reads as state-after-reads
 
--- src/lib.rt:93:9
 state-after-requires : tie.Need-state-after-requires
 state-after-requires c κs = search needs
 
--- src/lib.rt:96:9
 run-row-requires : tie.Need-run-row-requires
 run-row-requires c κs = search needs
 
--- src/lib.rt:98:9
 run-row-requires-2 : tie.Need-run-row-requires-2
 run-row-requires-2 c κs = search needs
 
--- src/lib.rt:90:1
 returns : tie.Need-returns
 returns c = rw (c .before .before .if1 .taken) (c .run-row .ensures ∙ ap {B = List ℕ} (λ (s : ℕ). runRow 1 s 1 (c .before .before .before .before .args .r .entries) (c .before .before .before .before .args .r .place) (c .before .before .before .before .args .r .count) (c .before .before .before .before .args .r .numbers)) (c .before .before .before .state-after .ensures))
 
--- src/lib.rt:90:1
 returns-2 : tie.Need-returns-2
 returns-2 c = rw (c .before .if1 .left) (c .run-row2 .ensures ∙ ap {B = List ℕ} (λ (s : ℕ). runRow 1 s 0 (c .before .before .before .args .r .entries) 0 0 (lib.ListN.replicate 8 0)) (c .before .before .state-after .ensures))
 

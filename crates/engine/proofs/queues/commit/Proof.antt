@@ -7,27 +7,21 @@ use Rattle.engine.proofs.queues.commit.Lts as lts
 use Rattle.engine.proofs.queues.drop_front.Reads as drop-front-reads
 use Rattle.engine.proofs.queues.settle.Reads as settle-reads
 
--- src/lib.rt:468:9
 drop-front-requires : tie.Need-drop-front-requires
 drop-front-requires c κs = search needs
 
--- src/lib.rt:469:5
 settle-requires : tie.Need-settle-requires
 settle-requires c κs = search needs
 
--- src/lib.rt:463:1
 same-length : tie.Need-same-length
 same-length c = search needs
 
--- src/lib.rt:463:1
 same-length-2 : tie.Need-same-length-2
 same-length-2 c = search needs
 
--- src/lib.rt:463:1
 same-length-3 : tie.Need-same-length-3
 same-length-3 c = search needs
 
--- src/lib.rt:463:1
 returns : tie.Need-returns
 returns c =
     let a = c .before .before .before .before .before .before .before .before .before .before .before .before .before .before .before .before .before .before .before .before .before .args in

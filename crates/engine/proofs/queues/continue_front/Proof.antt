@@ -21,86 +21,66 @@ use Rattle.engine.proofs.queues.run_row.Reads as run-row-reads
 use Rattle.engine.proofs.queues.state_after.Reads as state-after-reads
 use Rattle.record.proofs.lay.Reads as lay-reads
 
--- src/lib.rt:513:51
 cast-number-at : tie.Need-cast-number-at
 cast-number-at c = search needs
 
--- src/lib.rt:513:46
 mul-number-at : tie.Need-mul-number-at
 mul-number-at c = search needs
 
--- src/lib.rt:513:9
 number-at-requires : tie.Need-number-at-requires
 number-at-requires c κs = search needs
 
--- src/lib.rt:514:9
 continue-fragment-requires : tie.Need-continue-fragment-requires
 continue-fragment-requires c κs = search needs
 
--- src/lib.rt:515:9
 number-at-requires-2 : tie.Need-number-at-requires-2
 number-at-requires-2 c κs = search needs
 
--- src/lib.rt:516:9
 least-requires : tie.Need-least-requires
 least-requires c κs = search needs
 
--- src/lib.rt:517:9
 is-last-requires : tie.Need-is-last-requires
 is-last-requires c κs = search needs
 
--- src/lib.rt:518:9
 state-after-requires : tie.Need-state-after-requires
 state-after-requires c κs = search needs
 
--- src/lib.rt:519:9
 note-entries-requires : tie.Need-note-entries-requires
 note-entries-requires c κs = let r = c .before .before .before .before .before .before .before .before .continue-fragment in
     let row : length (r .result .undo) ≡ 16 = search (r, needs) in
     let few : r .result .entries ≤ 8 = entries-by-row _ (r .result) (r .ensures .0) row in
     (c .before .before .before .before .before .before .before .before .before .before .before .before .before .before .before .before .before .before .pre .0 .entries, few)
 
--- src/lib.rt:520:21
 add-run-row : tie.Need-add-run-row
 add-run-row c = search needs
 
--- src/lib.rt:520:13
 run-row-requires : tie.Need-run-row-requires
 run-row-requires c κs = search needs
 
--- src/lib.rt:521:26
 slice-aggregate-lay : tie.Need-slice-aggregate-lay
 slice-aggregate-lay c = search needs
 
--- src/lib.rt:521:5
 lay-requires : tie.Need-lay-requires
 lay-requires c κs = search needs
 
--- src/lib.rt:522:5
 put-answer-requires : tie.Need-put-answer-requires
 put-answer-requires c κs = omega (arith, c .before .before .before .before .before .before .before .before .before .before .before .before .before .before .before .before .before .before .before .before .before .before .before .before .before .before .before .before .pre .0 .answers)
 
--- src/lib.rt:528:18
 add-t27 : tie.Need-add-t27
 add-t27 c = omega (arith, c .before .before .before .before .before .before .before .before .before .before .before .before .before .before .before .before .before .before .before .before .before .before .before .before .before .before .before .before .before .before .before .before .pre .0 .answers)
 
--- src/lib.rt:508:1
 same-length : tie.Need-same-length
 same-length c = search needs
 
--- src/lib.rt:508:1
 same-length-2 : tie.Need-same-length-2
 same-length-2 c = search needs
 
--- src/lib.rt:508:1
 same-length-3 : tie.Need-same-length-3
 same-length-3 c = search needs
 
--- src/lib.rt:508:1
 same-length-4 : tie.Need-same-length-4
 same-length-4 c = search needs
 
--- src/lib.rt:508:1
 returns : tie.Need-returns
 returns c =
     let a = c .before .before .before .before .before .before .before .before .before .before .before .before .before .before .before .before .before .before .before .before .before .before .before .before .before .before .before .before .before .before .before .before .args in

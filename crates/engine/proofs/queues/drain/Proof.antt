@@ -20,46 +20,36 @@ Inv-loop σ live runs₀ undo₀ cells₀ room₀ c₀ runs undo cells room c = 
 abbrev μ-loop : tie.MeasureT-loop
 μ-loop σ live runs₀ undo₀ cells₀ room₀ c₀ runs undo cells room c = c .waiting
 
--- src/lib.rt:303:5
 loop-holds : tie.Need-loop-holds Inv-loop μ-loop
 loop-holds c = (c .before .before .before .before .before .pre, refl, refl, refl, refl, midst-start (c .before .before .before .before .before .args .scheme) (c .before .before .before .before .before .args .live .now) (c .before .before .before .before .before .args .runs .now) (c .before .before .before .before .before .args .undo .now) (c .before .before .before .before .before .args .room .now) (c .before .before .before .before .before .args .cells .now) (c .before .before .before .before .before .args .from))
 
--- src/lib.rt:304:13
 may-take-requires : tie.Need-may-take-requires Inv-loop μ-loop
 may-take-requires c κs = search needs
 
--- src/lib.rt:305:13
 same-length : tie.Need-same-length Inv-loop μ-loop
 same-length c = c .before .before .before .before .before .loop .inv .1
 
--- src/lib.rt:305:13
 same-length-2 : tie.Need-same-length-2 Inv-loop μ-loop
 same-length-2 c = c .before .before .before .before .before .loop .inv .2
 
--- src/lib.rt:305:13
 same-length-3 : tie.Need-same-length-3 Inv-loop μ-loop
 same-length-3 c = c .before .before .before .before .before .loop .inv .3
 
--- src/lib.rt:305:13
 same-length-4 : tie.Need-same-length-4 Inv-loop μ-loop
 same-length-4 c = c .before .before .before .before .before .loop .inv .4
 
--- src/lib.rt:305:13
 returns : tie.Need-returns Inv-loop μ-loop
 returns c = let a = c .before .before .before .before .before .before .before .before .before .before .before .args in
     let l = c .before .before .before .before .before .loop in
     (l .inv .0, midst-end (a .scheme) (a .live .now) (a .runs .now) (a .undo .now) (a .room .now) (a .cells .now) (a .from) (l .runs) (l .undo) (l .room) (l .cells) (l .c) (l .inv .5) (inr (sym (c .before .may-take .ensures) ∙ not-true (c .before .may-take .result) (c .if2 .taken))))
 
--- src/lib.rt:307:9
 turn-requires : tie.Need-turn-requires Inv-loop μ-loop
 turn-requires c κs = let l = c .before .before .before .before .before .before .before .before .before .loop in
     (l .inv .0, (c .before .before .before .before .before .before .before .if1 .taken, room-under (c .before .before .before .before .before .before .before .before .before .before .before .before .before .before .before .args .scheme) (l .runs) (l .c .uncommitted) (sym (c .before .before .before .before .before .may-take .ensures) ∙ not-false (c .before .before .before .before .before .may-take .result) (c .before .before .before .before .if2 .left))))
 
--- src/lib.rt:303:5
 loop-less : tie.Need-loop-less Inv-loop μ-loop
 loop-less c = omega (arith, c .before .before .before .before .before .before .before .before .turn .ensures .1 .0)
 
--- src/lib.rt:303:5
 loop-again : tie.Need-loop-again Inv-loop μ-loop
 loop-again c = let a = c .before .before .before .before .before .before .before .before .before .before .before .before .before .before .before .before .before .before .before .before .before .before .before .before .args in
     let l = c .before .before .before .before .before .before .before .before .before .before .before .before .before .before .before .before .before .before .loop in
@@ -73,23 +63,18 @@ loop-again c = let a = c .before .before .before .before .before .before .before
           (sym (c .before .before .before .before .before .before .before .before .before .before .before .before .before .before .may-take .ensures) ∙ not-false (c .before .before .before .before .before .before .before .before .before .before .before .before .before .before .may-take .result) (c .before .before .before .before .before .before .before .before .before .before .before .before .before .if2 .left)) (t .last .1 .0) (t .last .1 .1 .0) (t .last .1 .1 .1 .1 .0) (t .last .1 .1 .1 .0) (t .result) (t .ensures .1 .1),
     )
 
--- src/lib.rt:297:1
 same-length-5 : tie.Need-same-length-5 Inv-loop μ-loop
 same-length-5 c = c .before .before .loop .inv .1
 
--- src/lib.rt:297:1
 same-length-6 : tie.Need-same-length-6 Inv-loop μ-loop
 same-length-6 c = c .before .before .loop .inv .2
 
--- src/lib.rt:297:1
 same-length-7 : tie.Need-same-length-7 Inv-loop μ-loop
 same-length-7 c = c .before .before .loop .inv .3
 
--- src/lib.rt:297:1
 same-length-8 : tie.Need-same-length-8 Inv-loop μ-loop
 same-length-8 c = c .before .before .loop .inv .4
 
--- src/lib.rt:297:1
 returns-2 : tie.Need-returns-2 Inv-loop μ-loop
 returns-2 c = let a = c .before .before .before .before .before .before .before .before .args in
     let l = c .before .before .loop in

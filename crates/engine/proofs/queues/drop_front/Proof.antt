@@ -14,47 +14,36 @@ use Rattle.engine.proofs.queues.least.Reads as least-reads
 use Rattle.operations.proofs.number_at.Reads as number-at-reads
 use Rattle.record.proofs.shift.Reads as shift-reads
 
--- src/queues.rt:425:9
 number-at-requires : tie.Need-number-at-requires
 number-at-requires c κs = search needs
 
--- src/queues.rt:426:9
 least-requires : tie.Need-least-requires
 least-requires c κs = search needs
 
--- src/queues.rt:427:29
 mul-shift : tie.Need-mul-shift
 mul-shift c = search needs
 
--- src/queues.rt:427:5
 shift-requires : tie.Need-shift-requires
 shift-requires c κs = search needs
 
--- src/queues.rt:428:25
 mul-shift-2 : tie.Need-mul-shift-2
 mul-shift-2 c = search needs
 
--- src/queues.rt:428:32
 mul-shift-3 : tie.Need-mul-shift-3
 mul-shift-3 c = search needs
 
--- src/queues.rt:428:5
 shift-requires-2 : tie.Need-shift-requires-2
 shift-requires-2 c κs = search needs
 
--- src/queues.rt:429:5
 leaves-requires : tie.Need-leaves-requires
 leaves-requires c κs = search needs
 
--- src/queues.rt:418:1
 same-length : tie.Need-same-length
 same-length c = search needs
 
--- src/queues.rt:418:1
 same-length-2 : tie.Need-same-length-2
 same-length-2 c = search needs
 
--- src/queues.rt:418:1
 returns : tie.Need-returns
 returns c = let a = c .before .before .before .before .before .before .before .before .before .before .before .before .before .before .before .before .args in
     let p = c .before .before .before .before .before .before .before .before .before .before .before .before .before .before .before .before .pre in

@@ -5,15 +5,12 @@ use Rattle.engine.proofs.queues.is_answered.Tie as tie
 use Rattle.engine.proofs.queues.is_answered.Reads as reads
 use Rattle.engine.proofs.queues.is_answered.Lts as lts
 
--- src/lib.rt:159:1
 returns : tie.Need-returns
 returns c = rw (eq-eqb (c .before .args .uncommitted) 0 (c .if1 .taken))
 
--- src/lib.rt:159:1
 returns-2 : tie.Need-returns-2
 returns-2 c = rw (ne-eqb (c .before .before .args .uncommitted) 0 (c .before .if1 .left), c .if2 .taken)
 
--- src/lib.rt:159:1
 returns-3 : tie.Need-returns-3
 returns-3 c = rw (ne-eqb (c .before .before .args .uncommitted) 0 (c .before .if1 .left), c .if2 .left)
 

@@ -5,11 +5,9 @@ use Rattle.engine.proofs.queues.is_joining.Tie as tie
 use Rattle.engine.proofs.queues.is_joining.Reads as reads
 use Rattle.engine.proofs.queues.is_joining.Lts as lts
 
--- src/lib.rt:174:1
 returns : tie.Need-returns
 returns c = rw (eq-eqb (c .before .args .uncommitted) 0 (c .if1 .taken))
 
--- src/lib.rt:174:1
 returns-2 : tie.Need-returns-2
 returns-2 c = rw (ne-eqb (c .before .args .uncommitted) 0 (c .if1 .left))
 

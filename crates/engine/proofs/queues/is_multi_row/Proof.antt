@@ -8,15 +8,12 @@ use Rattle.engine.proofs.queues.is_multi_row.Reads as reads
 use Rattle.engine.proofs.queues.is_multi_row.Lts as lts
 use Rattle.operations.proofs.number_at.Reads as number-at-reads
 
--- src/lib.rt:400:45
 add-number-at : tie.Need-add-number-at
 add-number-at c = search needs
 
--- src/lib.rt:400:9
 number-at-requires : tie.Need-number-at-requires
 number-at-requires c κs = search needs
 
--- src/lib.rt:397:1
 returns : tie.Need-returns
 returns c = ap (λ (x : ℕ). eqb (x % 2) 1) (c .number-at .ensures)
 

@@ -14,51 +14,39 @@ use Rattle.engine.proofs.queues.Counts.joins.Reads as joins-reads
 use Rattle.engine.proofs.queues.begun_row.Reads as begun-row-reads
 use Rattle.record.proofs.lay.Reads as lay-reads
 
--- src/queues.rt:305:13
 begun-row-requires : tie.Need-begun-row-requires
 begun-row-requires c κs = search needs
 
--- src/queues.rt:307:23
 mul-lay : tie.Need-mul-lay
 mul-lay c = search needs
 
--- src/queues.rt:307:43
 slice-aggregate-lay : tie.Need-slice-aggregate-lay
 slice-aggregate-lay c = search needs
 
--- src/queues.rt:307:5
 lay-requires : tie.Need-lay-requires
 lay-requires c κs = search needs
 
--- src/queues.rt:308:23
 mul-lay-2 : tie.Need-mul-lay-2
 mul-lay-2 c = search needs
 
--- src/queues.rt:308:38
 slice-aggregate-lay-2 : tie.Need-slice-aggregate-lay-2
 slice-aggregate-lay-2 c = search needs
 
--- src/queues.rt:308:44
 mul-lay-3 : tie.Need-mul-lay-3
 mul-lay-3 c = search needs
 
--- src/queues.rt:308:5
 lay-requires-2 : tie.Need-lay-requires-2
 lay-requires-2 c κs = search needs
 
--- src/queues.rt:309:5
 joins-requires : tie.Need-joins-requires
 joins-requires c κs = search needs
 
--- src/queues.rt:292:1
 same-length : tie.Need-same-length
 same-length c = search needs
 
--- src/queues.rt:292:1
 same-length-2 : tie.Need-same-length-2
 same-length-2 c = search needs
 
--- src/queues.rt:292:1
 returns : tie.Need-returns
 returns c = let a = c .before .before .before .before .before .before .before .before .before .before .before .before .before .before .before .before .before .before .args in
     let w = c .before .before .before .before .before .before .before .before .before .before .before .before .before .before .before .begun-row .result in

@@ -6,27 +6,21 @@ use Rattle.engine.proofs.queues.join_if.Lts as lts
 use Rattle.engine.proofs.queues.Counts.settles.Reads as settles-reads
 use Rattle.engine.proofs.queues.join.Reads as join-reads
 
--- src/queues.rt:328:9
 join-requires : tie.Need-join-requires
 join-requires c κs = search needs
 
--- src/queues.rt:330:9
 settles-requires : tie.Need-settles-requires
 settles-requires c κs = search needs
 
--- src/queues.rt:313:1
 same-length : tie.Need-same-length
 same-length c = search needs
 
--- src/queues.rt:313:1
 same-length-2 : tie.Need-same-length-2
 same-length-2 c = search needs
 
--- src/queues.rt:313:1
 returns : tie.Need-returns
 returns c = let t = c .before .before .before .before .before .before .before .if1 .taken in (rw t (c .before .before .before .before .join .ensures .0), (rw t (c .before .before .before .before .join .ensures .1 .0), rw t (c .before .before .before .before .join .ensures .1 .1)))
 
--- src/queues.rt:313:1
 returns-2 : tie.Need-returns-2
 returns-2 c = let t = c .before .if1 .left in (rw t (c .settles .ensures), (rw t, rw t))
 

@@ -14,35 +14,27 @@ use Rattle.operations.proofs.number_at.Reads as number-at-reads
 use Rattle.engine.proofs.queues.run_row.Reads as run-row-reads
 use Rattle.record.proofs.lay.Reads as lay-reads
 
--- src/lib.rt:424:9
 number-at-requires : tie.Need-number-at-requires
 number-at-requires c κs = search needs
 
--- src/lib.rt:425:9
 number-at-requires-2 : tie.Need-number-at-requires-2
 number-at-requires-2 c κs = search needs
 
--- src/lib.rt:426:9
 number-at-requires-3 : tie.Need-number-at-requires-3
 number-at-requires-3 c κs = search needs
 
--- src/lib.rt:427:13
 run-row-requires : tie.Need-run-row-requires
 run-row-requires c κs = search needs
 
--- src/lib.rt:428:26
 slice-aggregate-lay : tie.Need-slice-aggregate-lay
 slice-aggregate-lay c = search needs
 
--- src/lib.rt:428:5
 lay-requires : tie.Need-lay-requires
 lay-requires c κs = search needs
 
--- src/lib.rt:421:1
 same-length : tie.Need-same-length
 same-length c = search needs
 
--- src/lib.rt:421:1
 returns : tie.Need-returns
 returns c = let a = c .before .before .before .before .before .before .before .before .before .before .before .before .before .args in
     let w = c .before .before .before .before .before .run-row .result in

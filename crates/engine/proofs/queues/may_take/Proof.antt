@@ -14,46 +14,36 @@ use Rattle.engine.proofs.queues.may_take.Lts as lts
 use Rattle.engine.proofs.queues.blocks.Reads as blocks-reads
 use Rattle.operations.proofs.number_at.Reads as number-at-reads
 
--- src/queues.rt:387:8
 blocks-requires : tie.Need-blocks-requires
 blocks-requires c κs = search needs
 
--- src/queues.rt:388:9
 returns : tie.Need-returns
 returns c = let b : blocking (c .before .before .before .args .scheme) ≡ true = sym (c .before .blocks2 .ensures) ∙ c .if1 .taken in rw b refl
 
--- src/queues.rt:391:9
 returns-2 : tie.Need-returns-2
 returns-2 c = let b : blocking (c .before .before .before .before .args .scheme) ≡ false = sym (c .before .before .blocks2 .ensures) ∙ c .before .if1 .left in rw (b, eq-eqb (c .before .before .before .before .args .uncommitted) 0 (c .if2 .taken))
 
--- src/queues.rt:394:9
 returns-3 : tie.Need-returns-3
 returns-3 c = let b : blocking (c .before .before .before .before .before .args .scheme) ≡ false = sym (c .before .before .before .blocks2 .ensures) ∙ c .before .before .if1 .left in rw (b, ne-eqb (c .before .before .before .before .before .args .uncommitted) 0 (c .before .if2 .left), le-leb 16 (c .before .before .before .before .before .args .uncommitted) (c .if3 .taken))
 
--- src/queues.rt:396:51
 sub-number-at : tie.Need-sub-number-at
 sub-number-at c = search needs
 
--- src/queues.rt:396:45
 mul-number-at : tie.Need-mul-number-at
 mul-number-at c = search needs
 
--- src/queues.rt:396:45
 add-number-at : tie.Need-add-number-at
 add-number-at c = search needs
 
--- src/queues.rt:396:9
 number-at-requires : tie.Need-number-at-requires
 number-at-requires c κs = search needs
 
--- src/queues.rt:398:9
 returns-4 : tie.Need-returns-4
 returns-4 c = let w = c .before .number-at in
     let b : blocking (c .before .before .before .before .before .before .before .args .scheme) ≡ false = sym (c .before .before .before .before .before .blocks2 .ensures) ∙ c .before .before .before .before .if1 .left in
     rw (b, ne-eqb (c .before .before .before .before .before .before .before .args .uncommitted) 0 (c .before .before .before .if2 .left), lt-leb 16 (c .before .before .before .before .before .before .before .args .uncommitted) (c .before .before .if3 .left))
     (sym (ap (λ (b : Bool). pick b true (eqb (w .result) 2)) (eq-eqb (w .result) 1 (c .if4 .taken))) ∙ ap (λ (x : ℕ). pick (eqb x 1) true (eqb x 2)) (w .ensures))
 
--- src/queues.rt:398:9
 returns-5 : tie.Need-returns-5
 returns-5 c = let w = c .before .number-at in
     let b : blocking (c .before .before .before .before .before .before .before .args .scheme) ≡ false = sym (c .before .before .before .before .before .blocks2 .ensures) ∙ c .before .before .before .before .if1 .left in

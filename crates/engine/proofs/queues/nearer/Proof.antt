@@ -6,23 +6,18 @@ use Rattle.engine.proofs.queues.nearer.Reads as reads
 use Rattle.engine.proofs.queues.nearer.Lts as lts
 use Rattle.operations.proofs.number_at.Reads as number-at-reads
 
--- src/lib.rt:134:45
 add-number-at : tie.Need-add-number-at
 add-number-at c = search needs
 
--- src/lib.rt:134:9
 number-at-requires : tie.Need-number-at-requires
 number-at-requires c κs = search needs
 
--- src/lib.rt:136:9
 number-at-requires-2 : tie.Need-number-at-requires-2
 number-at-requires-2 c κs = search needs
 
--- src/lib.rt:131:1
 returns : tie.Need-returns
 returns c = near-multi (c .before .before .before .before .args .live .now) (c .before .before .before .before .args .at) (c .before .before .before .before .args .d) (c .before .before .number-at .result) (c .before .before .number-at .ensures) (c .before .if1 .taken) _ (c .number-at2 .ensures)
 
--- src/lib.rt:131:1
 returns-2 : tie.Need-returns-2
 returns-2 c = near-single (c .before .before .before .args .live .now) (c .before .before .before .args .at) (c .before .before .before .args .d) (c .before .number-at .result) (c .before .number-at .ensures) (c .if1 .left)
 

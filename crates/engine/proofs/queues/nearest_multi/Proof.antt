@@ -16,39 +16,31 @@ Inv-loop live b n d₀ i₀ d i = (i ≤ n) × (nearRows d live (b + 28 * i) (n 
 abbrev μ-loop : tie.MeasureT-loop
 μ-loop live b n d₀ i₀ d i = n - i
 
--- src/lib.rt:149:5
 loop-holds : tie.Need-loop-holds Inv-loop μ-loop
 loop-holds c = let a = c .before .args in
     let s = rows-start (a .b) (a .n) in
     (search needs, λ j. nearRows 0 (a .live .now) (s .0 j) (s .1 j))
 
--- src/lib.rt:150:30
 mul-nearer : tie.Need-mul-nearer Inv-loop μ-loop
 mul-nearer c = search needs
 
--- src/lib.rt:150:26
 add-nearer : tie.Need-add-nearer Inv-loop μ-loop
 add-nearer c = search needs
 
--- src/lib.rt:150:9
 nearer-requires : tie.Need-nearer-requires Inv-loop μ-loop
 nearer-requires c κs = search needs
 
--- src/lib.rt:151:13
 add-i : tie.Need-add-i Inv-loop μ-loop
 add-i c = search needs
 
--- src/lib.rt:149:5
 loop-less : tie.Need-loop-less Inv-loop μ-loop
 loop-less c = search needs
 
--- src/lib.rt:149:5
 loop-again : tie.Need-loop-again Inv-loop μ-loop
 loop-again c = let a = c .before .before .before .before .args in
     let l = c .before .before .loop in
     (omega arith, near-on (a .live .now) (a .b) (a .n) (l .i) (l .d) _ (l .inv .1) (c .before .loop-test .taken) _ (c .nearer .ensures))
 
--- src/lib.rt:143:1
 returns : tie.Need-returns Inv-loop μ-loop
 returns c = let a = c .before .before .before .args in
     let l = c .before .loop in

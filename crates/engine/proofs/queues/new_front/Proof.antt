@@ -10,39 +10,30 @@ use Rattle.operations.proofs.number_at.Reads as number-at-reads
 use Rattle.engine.proofs.queues.mark_sent.Reads as mark-sent-reads
 use Rattle.engine.proofs.queues.put_held.Reads as put-held-reads
 
--- src/lib.rt:438:9
 returns : tie.Need-returns
 returns c = let a = c .before .before .before .before .before .args in (refl, fronted-none (a .live .now) (a .runs .now) (a .room .now) (a .c) (c .if1 .taken))
 
--- src/lib.rt:440:51
 cast-number-at : tie.Need-cast-number-at
 cast-number-at c = search needs
 
--- src/lib.rt:440:46
 mul-number-at : tie.Need-mul-number-at
 mul-number-at c = search needs
 
--- src/lib.rt:440:9
 number-at-requires : tie.Need-number-at-requires
 number-at-requires c κs = search needs
 
--- src/lib.rt:441:9
 put-held-requires : tie.Need-put-held-requires
 put-held-requires c κs = search needs
 
--- src/lib.rt:442:5
 mark-sent-requires : tie.Need-mark-sent-requires
 mark-sent-requires c κs = search needs
 
--- src/lib.rt:432:1
 same-length : tie.Need-same-length
 same-length c = search needs
 
--- src/lib.rt:432:1
 same-length-2 : tie.Need-same-length-2
 same-length-2 c = search needs
 
--- src/lib.rt:432:1
 returns-2 : tie.Need-returns-2
 returns-2 c = let a = c .before .before .before .before .before .before .before .before .before .before .before .before .before .before .before .before .args in
     let h = c .before .before .before .before .before .before .put-held in

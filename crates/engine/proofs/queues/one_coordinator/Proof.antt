@@ -17,45 +17,36 @@ Inv-loop live b n k i₀ i = (i ≤ n) × (oneRows live (b + 28 * i) (n - i) k �
 abbrev μ-loop : tie.MeasureT-loop
 μ-loop live b n k i₀ i = n - i
 
--- src/lib.rt:121:5
 loop-holds : tie.Need-loop-holds Inv-loop μ-loop
 loop-holds c = let a = c .before .args in
     let s = rows-start (a .b) (a .n) in
     (search needs, λ j. oneRows (a .live .now) (s .0 j) (s .1 j) (a .k))
 
--- src/lib.rt:122:40
 mul-same-coordinator : tie.Need-mul-same-coordinator Inv-loop μ-loop
 mul-same-coordinator c = search needs
 
--- src/lib.rt:122:36
 add-same-coordinator : tie.Need-add-same-coordinator Inv-loop μ-loop
 add-same-coordinator c = search needs
 
--- src/lib.rt:122:13
 same-coordinator-requires : tie.Need-same-coordinator-requires Inv-loop μ-loop
 same-coordinator-requires c κs = search needs
 
--- src/lib.rt:123:13
 returns : tie.Need-returns Inv-loop μ-loop
 returns c = let a = c .before .before .before .before .before .args in
     let l = c .before .before .before .loop in
     one-stops (a .live .now) (a .b) (a .n) (a .k) (l .i) _ (l .inv .1) (c .before .before .loop-test .taken) (sym (c .before .same-coordinator .ensures) ∙ not-true (c .before .same-coordinator .result) (c .if1 .taken))
 
--- src/lib.rt:125:13
 add-i : tie.Need-add-i Inv-loop μ-loop
 add-i c = search needs
 
--- src/lib.rt:121:5
 loop-less : tie.Need-loop-less Inv-loop μ-loop
 loop-less c = search needs
 
--- src/lib.rt:121:5
 loop-again : tie.Need-loop-again Inv-loop μ-loop
 loop-again c = let a = c .before .before .before .before .before .args in
     let l = c .before .before .before .loop in
     (omega arith, one-on (a .live .now) (a .b) (a .n) (a .k) (l .i) _ (l .inv .1) (c .before .before .loop-test .taken) (sym (c .before .same-coordinator .ensures) ∙ not-false (c .before .same-coordinator .result) (c .if1 .left)))
 
--- src/lib.rt:116:1
 returns-2 : tie.Need-returns-2 Inv-loop μ-loop
 returns-2 c = let a = c .before .before .before .args in
     let l = c .before .loop in

@@ -12,27 +12,21 @@ use Rattle.engine.proofs.queues.put_answer.Lts as lts
 use Rattle.engine.proofs.queues.answer_row.Reads as answer-row-reads
 use Rattle.record.proofs.lay.Reads as lay-reads
 
--- src/lib.rt:190:13
 answer-row-requires : tie.Need-answer-row-requires
 answer-row-requires c κs = search needs
 
--- src/lib.rt:191:23
 mul-lay : tie.Need-mul-lay
 mul-lay c = search needs
 
--- src/lib.rt:191:37
 slice-aggregate-lay : tie.Need-slice-aggregate-lay
 slice-aggregate-lay c = search needs
 
--- src/lib.rt:191:5
 lay-requires : tie.Need-lay-requires
 lay-requires c κs = search needs
 
--- src/lib.rt:185:1
 same-length : tie.Need-same-length
 same-length c = search needs
 
--- src/lib.rt:185:1
 returns : tie.Need-returns
 returns c = let a = c .before .before .before .before .before .before .before .before .args in
     let w = c .before .before .before .before .before .answer-row .result in

@@ -17,35 +17,27 @@ use Rattle.operations.proofs.number_at.Reads as number-at-reads
 use Rattle.engine.proofs.queues.held_row.Reads as held-row-reads
 use Rattle.record.proofs.lay.Reads as lay-reads
 
--- src/lib.rt:366:9
 number-at-requires : tie.Need-number-at-requires
 number-at-requires c κs = search needs
 
--- src/lib.rt:368:17
 held-row-requires : tie.Need-held-row-requires
 held-row-requires c κs = search needs
 
--- src/lib.rt:369:27
 mul-lay : tie.Need-mul-lay
 mul-lay c = search needs
 
--- src/lib.rt:369:41
 slice-aggregate-lay : tie.Need-slice-aggregate-lay
 slice-aggregate-lay c = search needs
 
--- src/lib.rt:369:9
 lay-requires : tie.Need-lay-requires
 lay-requires c κs = search needs
 
--- src/lib.rt:370:9
 add-result : tie.Need-add-result
 add-result c = search needs
 
--- src/lib.rt:361:1
 same-length : tie.Need-same-length
 same-length c = search needs
 
--- src/lib.rt:361:1
 returns : tie.Need-returns
 returns c = let a = c .before .before .before .before .before .before .before .before .before .before .args in
     let w = c .before .before .before .before .before .held-row .result in
@@ -53,7 +45,6 @@ returns c = let a = c .before .before .before .before .before .before .before .b
     let h : holdsRow (a .runs .now) ≡ true = sym (ap (λ (x : ℕ). eqb x 1) (c .before .before .before .before .before .before .before .number-at .ensures)) ∙ eq-eqb (c .before .before .before .before .before .before .before .number-at .result) 1 (c .before .before .before .before .before .before .if1 .taken) in
     (rw h, rw h (c .before .before .lay .ensures ∙ ap (sets (a .room .now) (16 * a .answers)) (laid-whole w 16 e ∙ c .before .before .before .before .before .held-row .ensures)))
 
--- src/lib.rt:361:1
 returns-2 : tie.Need-returns-2
 returns-2 c = let a = c .before .before .before .before .args in
     let h : holdsRow (a .runs .now) ≡ false = sym (ap (λ (x : ℕ). eqb x 1) (c .before .number-at .ensures)) ∙ ne-eqb (c .before .number-at .result) 1 (c .if1 .left) in

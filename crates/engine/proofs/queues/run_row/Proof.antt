@@ -10,39 +10,30 @@ use Rattle.engine.proofs.queues.run_row.Tie as tie
 use Rattle.engine.proofs.queues.run_row.Reads as reads
 use Rattle.engine.proofs.queues.run_row.Lts as lts
 
--- src/lib.rt:61:9
 array-read-t11 : tie.Need-array-read-t11
 array-read-t11 c = search needs
 
--- src/lib.rt:62:9
 array-read-t14 : tie.Need-array-read-t14
 array-read-t14 c = search needs
 
--- src/lib.rt:63:9
 array-read-t17 : tie.Need-array-read-t17
 array-read-t17 c = search needs
 
--- src/lib.rt:64:9
 array-read-t20 : tie.Need-array-read-t20
 array-read-t20 c = search needs
 
--- src/lib.rt:65:9
 array-read-t23 : tie.Need-array-read-t23
 array-read-t23 c = search needs
 
--- src/lib.rt:66:9
 array-read-t26 : tie.Need-array-read-t26
 array-read-t26 c = search needs
 
--- src/lib.rt:67:9
 array-read-t29 : tie.Need-array-read-t29
 array-read-t29 c = search needs
 
--- src/lib.rt:68:9
 array-read-t32 : tie.Need-array-read-t32
 array-read-t32 c = search needs
 
--- src/lib.rt:51:1
 returns : tie.Need-returns
 returns c = let e : length (c .args .t7) ≡ 8 = search needs in ap {B = List ℕ} (λ (x : List ℕ). runRow (c .args .ran) (c .args .state) (c .args .reply) (c .args .entries) (c .args .place) (c .args .count) x) (eight-numbers (c .args .t7) e)
 

@@ -6,27 +6,21 @@ use Rattle.engine.proofs.queues.same_coordinator.Reads as reads
 use Rattle.engine.proofs.queues.same_coordinator.Lts as lts
 use Rattle.operations.proofs.number_at.Reads as number-at-reads
 
--- src/lib.rt:106:45
 add-number-at : tie.Need-add-number-at
 add-number-at c = search needs
 
--- src/lib.rt:106:9
 number-at-requires : tie.Need-number-at-requires
 number-at-requires c κs = search needs
 
--- src/lib.rt:108:49
 add-number-at-2 : tie.Need-add-number-at-2
 add-number-at-2 c = search needs
 
--- src/lib.rt:108:13
 number-at-requires-2 : tie.Need-number-at-requires-2
 number-at-requires-2 c κs = search needs
 
--- src/lib.rt:103:1
 returns : tie.Need-returns
 returns c = same-multi (c .before .before .before .before .args .live .now) (c .before .before .before .before .args .at) (c .before .before .before .before .args .k) (c .before .before .number-at .result) (c .before .before .number-at .ensures) (c .before .if1 .taken) _ (c .number-at2 .ensures)
 
--- src/lib.rt:103:1
 returns-2 : tie.Need-returns-2
 returns-2 c = same-single (c .before .before .before .args .live .now) (c .before .before .before .args .at) (c .before .before .before .args .k) (c .before .number-at .result) (c .before .number-at .ensures) (c .if1 .left)
 

@@ -10,27 +10,21 @@ use Rattle.engine.proofs.queues.settle.Lts as lts
 use Rattle.engine.proofs.queues.new_front.Reads as new-front-reads
 use Rattle.engine.proofs.queues.settle_singles.Reads as settle-singles-reads
 
--- src/lib.rt:457:9
 settle-singles-requires : tie.Need-settle-singles-requires
 settle-singles-requires c κs = search needs
 
--- src/lib.rt:458:5
 new-front-requires : tie.Need-new-front-requires
 new-front-requires c κs = search needs
 
--- src/lib.rt:453:1
 same-length : tie.Need-same-length
 same-length c = search needs
 
--- src/lib.rt:453:1
 same-length-2 : tie.Need-same-length-2
 same-length-2 c = search needs
 
--- src/lib.rt:453:1
 same-length-3 : tie.Need-same-length-3
 same-length-3 c = search needs
 
--- src/lib.rt:453:1
 returns : tie.Need-returns
 returns c =
     let a = c .before .before .before .before .before .before .before .before .before .before .before .before .before .before .before .before .before .before .before .before .before .args in

@@ -10,39 +10,30 @@ use Rattle.operations.proofs.number_at.Reads as number-at-reads
 use Rattle.engine.proofs.queues.drop_front.Reads as drop-front-reads
 use Rattle.engine.proofs.queues.put_held.Reads as put-held-reads
 
--- src/lib.rt:384:51
 cast-number-at : tie.Need-cast-number-at
 cast-number-at c = search needs
 
--- src/lib.rt:384:46
 mul-number-at : tie.Need-mul-number-at
 mul-number-at c = search needs
 
--- src/lib.rt:384:9
 number-at-requires : tie.Need-number-at-requires
 number-at-requires c κs = search needs
 
--- src/lib.rt:385:9
 put-held-requires : tie.Need-put-held-requires
 put-held-requires c κs = search needs
 
--- src/lib.rt:386:9
 drop-front-requires : tie.Need-drop-front-requires
 drop-front-requires c κs = search needs
 
--- src/lib.rt:377:1
 same-length : tie.Need-same-length
 same-length c = search needs
 
--- src/lib.rt:377:1
 same-length-2 : tie.Need-same-length-2
 same-length-2 c = search needs
 
--- src/lib.rt:377:1
 same-length-3 : tie.Need-same-length-3
 same-length-3 c = search needs
 
--- src/lib.rt:377:1
 returns : tie.Need-returns
 returns c = let a = c .before .before .before .before .before .before .before .before .before .before .before .before .before .before .before .before .before .before .args in
     let p = c .before .before .before .before .before .before .before .before .before .before .before .before .before .before .before .before .before .before .pre in

@@ -19,45 +19,35 @@ Inv-loop live runs₀ undo₀ room₀ c₀ runs undo room c = Fair c × (length 
 abbrev μ-loop : tie.MeasureT-loop
 μ-loop live runs₀ undo₀ room₀ c₀ runs undo room c = c .uncommitted
 
--- src/lib.rt:411:5
 loop-holds : tie.Need-loop-holds Inv-loop μ-loop
 loop-holds c = (c .before .before .before .before .pre, refl, refl, refl, midway-start (c .before .before .before .before .args .live .now) (c .before .before .before .before .args .runs .now) (c .before .before .before .before .args .undo .now) (c .before .before .before .before .args .room .now) (c .before .before .before .before .args .from))
 
--- src/lib.rt:412:31
 mul-is-multi-row : tie.Need-mul-is-multi-row Inv-loop μ-loop
 mul-is-multi-row c = omega (arith, c .before .before .before .loop .inv .0 .live)
 
--- src/lib.rt:412:12
 is-multi-row-requires : tie.Need-is-multi-row-requires Inv-loop μ-loop
 is-multi-row-requires c κs = search needs
 
--- src/lib.rt:413:13
 same-length : tie.Need-same-length Inv-loop μ-loop
 same-length c = c .before .before .before .before .before .loop .inv .1
 
--- src/lib.rt:413:13
 same-length-2 : tie.Need-same-length-2 Inv-loop μ-loop
 same-length-2 c = c .before .before .before .before .before .loop .inv .2
 
--- src/lib.rt:413:13
 same-length-3 : tie.Need-same-length-3 Inv-loop μ-loop
 same-length-3 c = c .before .before .before .before .before .loop .inv .3
 
--- src/lib.rt:413:13
 returns : tie.Need-returns Inv-loop μ-loop
 returns c = let a = c .before .before .before .before .before .before .before .before .before .before .args in
     let l = c .before .before .before .before .before .loop in
     (l .inv .0, midway-end (a .live .now) (a .runs .now) (a .undo .now) (a .room .now) (l .runs) (l .undo) (l .room) (a .from) (l .c) (l .inv .4) (inr (sym (c .before .is-multi-row .ensures) ∙ c .if2 .taken)))
 
--- src/lib.rt:415:9
 settle-one-requires : tie.Need-settle-one-requires Inv-loop μ-loop
 settle-one-requires c κs = (c .before .before .before .before .before .before .before .before .loop .inv .0, c .before .before .before .before .before .before .if1 .taken)
 
--- src/lib.rt:411:5
 loop-less : tie.Need-loop-less Inv-loop μ-loop
 loop-less c = omega (arith, c .before .before .before .before .before .before .settle-one .ensures .1 .0)
 
--- src/lib.rt:411:5
 loop-again : tie.Need-loop-again Inv-loop μ-loop
 loop-again c = let a = c .before .before .before .before .before .before .before .before .before .before .before .before .before .before .before .before .before .before .before .before .args in
     let l = c .before .before .before .before .before .before .before .before .before .before .before .before .before .before .before .loop in
@@ -69,19 +59,15 @@ loop-again c = let a = c .before .before .before .before .before .before .before
       midway-turn (a .live .now) (a .runs .now) (a .undo .now) (a .room .now) (l .runs) (l .undo) (l .room) (a .from) (l .c) (l .inv .4) (c .before .before .before .before .before .before .before .before .before .before .before .before .before .if1 .taken) (sym (c .before .before .before .before .before .before .before .before .before .before .before .is-multi-row .ensures) ∙ c .before .before .before .before .before .before .before .before .before .before .if2 .left) (s .last .1 .0) (s .last .1 .1 .0) (s .last .1 .1 .1 .0) (s .result) (s .ensures .1 .1),
     )
 
--- src/lib.rt:405:1
 same-length-4 : tie.Need-same-length-4 Inv-loop μ-loop
 same-length-4 c = c .before .before .loop .inv .1
 
--- src/lib.rt:405:1
 same-length-5 : tie.Need-same-length-5 Inv-loop μ-loop
 same-length-5 c = c .before .before .loop .inv .2
 
--- src/lib.rt:405:1
 same-length-6 : tie.Need-same-length-6 Inv-loop μ-loop
 same-length-6 c = c .before .before .loop .inv .3
 
--- src/lib.rt:405:1
 returns-2 : tie.Need-returns-2 Inv-loop μ-loop
 returns-2 c = let a = c .before .before .before .before .before .before .before .args in
     let l = c .before .before .loop in

@@ -5,15 +5,12 @@ use Rattle.engine.proofs.queues.state_after.Tie as tie
 use Rattle.engine.proofs.queues.state_after.Reads as reads
 use Rattle.engine.proofs.queues.state_after.Lts as lts
 
--- src/lib.rt:75:1
 returns : tie.Need-returns
 returns c = rw (eq-eqb (c .before .before .args .place) 0 (c .before .if1 .taken), c .if2 .taken)
 
--- src/lib.rt:75:1
 returns-2 : tie.Need-returns-2
 returns-2 c = rw (eq-eqb (c .before .before .args .place) 0 (c .before .if1 .taken), c .if2 .left)
 
--- src/lib.rt:75:1
 returns-3 : tie.Need-returns-3
 returns-3 c = rw (ne-eqb (c .before .args .place) 0 (c .if1 .left))
 

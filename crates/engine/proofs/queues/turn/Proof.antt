@@ -21,85 +21,65 @@ use Rattle.engine.proofs.queues.nearest_multi.Reads as nearest-multi-re
 use Rattle.engine.proofs.queues.one_coordinator.Reads as one-coordinator-reads
 use Rattle.record.proofs.fragment_at.Reads as fragment-at-reads
 
--- src/lib.rt:257:20
 add-at : tie.Need-add-at
 add-at c = search needs
 
--- src/lib.rt:257:14
 mul-at : tie.Need-mul-at
 mul-at c = search needs
 
--- src/lib.rt:258:16
 mul-from : tie.Need-mul-from
 mul-from c = search needs
 
--- src/lib.rt:259:46
 cast-number-at : tie.Need-cast-number-at
 cast-number-at c = search needs
 
--- src/lib.rt:259:9
 number-at-requires : tie.Need-number-at-requires
 number-at-requires c κs = search needs
 
--- src/lib.rt:260:9
 fragment-at-requires : tie.Need-fragment-at-requires
 fragment-at-requires c κs = search needs
 
--- src/lib.rt:261:9
 run-fragment-requires : tie.Need-run-fragment-requires
 run-fragment-requires c κs = search needs
 
--- src/lib.rt:262:9
 is-multi-requires : tie.Need-is-multi-requires
 is-multi-requires c κs = search needs
 
--- src/lib.rt:263:9
 is-last-requires : tie.Need-is-last-requires
 is-last-requires c κs = search needs
 
--- src/lib.rt:264:9
 one-coordinator-requires : tie.Need-one-coordinator-requires
 one-coordinator-requires c κs = search needs
 
--- src/lib.rt:265:9
 nearest-multi-requires : tie.Need-nearest-multi-requires
 nearest-multi-requires c κs = omega (arith, c .before .before .before .before .before .before .before .before .before .before .before .before .before .before .before .before .pre .0 .live, c .before .before .before .before .before .before .before .before .before .before .before .before .before .before .before .before .pre .0 .depth)
 
--- src/lib.rt:266:9
 is-answered-requires : tie.Need-is-answered-requires
 is-answered-requires c κs = search needs
 
--- src/lib.rt:267:9
 is-joining-requires : tie.Need-is-joining-requires
 is-joining-requires c κs = search needs
 
--- src/lib.rt:268:9
 answer-if-requires : tie.Need-answer-if-requires
 answer-if-requires c κs = omega (arith, c .before .before .before .before .before .before .before .before .before .before .before .before .before .before .before .before .before .before .before .before .pre .0 .answers, c .before .before .before .before .before .before .before .before .before .before .before .before .before .before .before .before .before .before .before .before .pre .1)
 
--- src/lib.rt:276:5
 join-if-requires : tie.Need-join-if-requires
 join-if-requires c κs = let p = c .before .before .before .before .before .before .before .before .before .before .before .before .before .before .before .before .before .before .before .before .before .before .before .before .before .pre in
     let few : c .before .before .before .before .before .before .before .before .before .before .before .before .before .before .run-fragment .result .entries ≤ 8 = entries-few (c .before .before .before .before .before .before .before .before .before .before .before .before .before .before .before .before .before .before .before .before .before .before .before .before .before .args .live .now) _ (c .before .before .before .before .before .before .before .before .before .before .before .before .before .before .before .before .fragment-at .result) (c .before .before .before .before .before .before .before .before .before .before .before .before .before .before .before .before .before .before .before .before .before .before .before .before .before .args .cells .now) (c .before .before .before .before .before .before .before .before .before .before .before .before .before .before .run-fragment .result) (c .before .before .before .before .before .before .before .before .before .before .before .before .before .before .before .before .fragment-at .ensures) (c .before .before .before .before .before .before .before .before .before .before .before .before .before .before .run-fragment .ensures .0) in
     omega (arith, p .0 .live, p .0 .entries, p .1, few)
 
--- src/lib.rt:250:1
 same-length : tie.Need-same-length
 same-length c = search needs
 
--- src/lib.rt:250:1
 same-length-2 : tie.Need-same-length-2
 same-length-2 c = search needs
 
--- src/lib.rt:250:1
 same-length-3 : tie.Need-same-length-3
 same-length-3 c = search needs
 
--- src/lib.rt:250:1
 same-length-4 : tie.Need-same-length-4
 same-length-4 c = search needs
 
--- src/lib.rt:250:1
 returns : tie.Need-returns
 returns c = let p = c .before .before .before .before .before .before .before .before .before .before .before .before .before .before .before .before .before .before .before .before .before .before .before .before .before .before .before .before .before .before .pre in
     let a = c .before .before .before .before .before .before .before .before .before .before .before .before .before .before .before .before .before .before .before .before .before .before .before .before .before .before .before .before .before .before .args in
