@@ -8,7 +8,7 @@ use mathlib.Core.List.{List, [], _∷_, _++_, append-assoc, append-nil, map}
 use lib.ListN.{length, getD, set, take, drop, replicate, length-append, length-replicate, length-take, length-map, drop-of-length-le}
 use lib.Dec.{leb, eqb}
 use borrow.Author.Tests.{leb-true, leb-false, eq-eqb, ne-eqb}
-use lib.Seq.{take-all, set-at, drop-cons, getD-take, getD-at, getD-append-add}
+use lib.Seq.{take-all, take-suc, take-suc-set, set-at, drop-cons, getD-take, getD-at, getD-append-add}
 use Rattle.model.specs.Operations.{Cells, content, operate, meaning, put, writes, operations, Outcome}
 use Rattle.model.specs.Steps.{undone, noted, runFrom, run}
 use Rattle.model.specs.Steps as Steps
@@ -21,7 +21,7 @@ use Rattle.model.specs.declared.Did.{Did}
 use Rattle.model.specs.declared.Did.the-variants.{Number, Fails}
 use Rattle.operations.specs.declared.Operated.{Operated}
 use Rattle.operations.specs.declared.Ran.{Ran}
-use Rattle.operations.specs.Laid.{operated, afterwards, entriesOf, flat, padded, noteCount, noteRow, laid}
+use Rattle.operations.specs.Laid.{operated, afterwards, entryAt, entriesOf, flat, padded, noteCount, noteRow, laid}
 
 -- One operation: x is what it found, d what it did
 
@@ -51,26 +51,43 @@ module _ (o : Op) (cs : Cells) (x : ℕ) (d : Did) (ex : x ≡ getD cs (o .cell)
 
 -- Rows of entries
 
--- the last of n + 1 entries stands behind the first n
-entries-snoc : (l : List ℕ) (b n : ℕ) → entriesOf l b (suc n) ≡ entriesOf l b n ++ (record { cell = getD l (b + 2 * n) 0; old = getD l (b + 2 * n + 1) 0 } ∷ [])
+-- m + n entries are m of them and n behind these
+entries-append : (l : List ℕ) (b m n : ℕ) → entriesOf l b (m + n) ≡ entriesOf l b m ++ entriesOf l (b + 2 * m) n
 unfolding entriesOf
-entries-snoc l b zero =
+entries-append l b zero n =
     let e : b + 2 * 0 ≡ b = omega arith in
-    rw e
-entries-snoc l b (suc n) =
-    let e : b + 2 + 2 * n ≡ b + 2 * suc n = omega arith in
-    ap {B = List Undo} (λ (x : List Undo). record { cell = getD l b 0; old = getD l (b + 1) 0 } ∷ x) (entries-snoc l (b + 2) n ∙ rw e)
+    let z : 0 + n ≡ n = omega arith in
+    rw (e, z)
+entries-append l b (suc m) n =
+    let e : b + 2 + 2 * m ≡ b + 2 * suc m = omega arith in
+    let s : suc m + n ≡ suc (m + n) = omega arith in
+    ap (entriesOf l b) s ∙ ap {B = List Undo} (λ (x : List Undo). entryAt l b ∷ x) (entries-append l (b + 2) m n ∙ rw e)
 
--- one turn of undoing: entry k goes, and what is left are the first k
-pub undo-turn : (l : List ℕ) (k : ℕ) (cs cs′ all : Cells) (cell old : ℕ) → 0 < k → cell ≡ getD l (2 * (k - 1)) 0 → old ≡ getD l (2 * (k - 1) + 1) 0 → cs′ ≡ set cs cell old
-    → undone (entriesOf l 0 k) cs ≡ all → undone (entriesOf l 0 (k - 1)) cs′ ≡ all
+-- one more entry copied out, behind i of them
+pub copy-turn : (l : List ℕ) (from i : ℕ) (few : List Undo) (u : Undo) → i < length few → u ≡ entryAt l (2 * (from + i)) → take i few ≡ entriesOf l (2 * from) i
+    → take (i + 1) (set few i u) ≡ entriesOf l (2 * from) (i + 1)
+unfolding entriesOf
+copy-turn l from i few u h eu inv =
+    let e : 2 * (from + i) ≡ 2 * from + 2 * i = omega arith in
+    ap (λ (x : ℕ). take x (set few i u)) (add-one i) ∙ take-suc-set few i u h ∙ ap (λ (x : List Undo). x ++ (u ∷ [])) inv
+    ∙ ap (λ (x : Undo). entriesOf l (2 * from) i ++ (x ∷ [])) (eu ∙ ap (entryAt l) e) ∙ sym (entries-append l (2 * from) i 1)
+
+-- the newest of j + 1 entries goes, and what is left are the first j
+pub undo-newest : (us : List Undo) (j : ℕ) (d : Undo) (cs cs′ all : Cells) → j < length us → cs′ ≡ set cs (getD us j d .cell) (getD us j d .old) → undone (take (suc j) us) cs ≡ all
+    → undone (take j us) cs′ ≡ all
 unfolding undone
-undo-turn l k cs cs′ all cell old h ec eo es inv =
-    let j : ℕ = k - 1 in
-    let ek : suc j ≡ k = omega arith in
+undo-newest us j d cs cs′ all h es inv =
+    ap (undone (take j us)) es ∙ sym (undone-append (take j us) (getD us j d ∷ []) cs) ∙ ap (λ (x : List Undo). undone x cs) (sym (take-suc us j d h)) ∙ inv
+
+-- the newest n of k entries go, and what is left are the others
+pub undo-turn : (l : List ℕ) (k n : ℕ) (few : List Undo) (cs cs′ all : Cells) → n ≤ k → take n few ≡ entriesOf l (2 * (k - n)) n → cs′ ≡ undone (take n few) cs → undone (entriesOf l 0 k) cs ≡ all
+    → undone (entriesOf l 0 (k - n)) cs′ ≡ all
+undo-turn l k n few cs cs′ all h ef es inv =
+    let j : ℕ = k - n in
+    let ek : j + n ≡ k = omega arith in
     let e2 : 0 + 2 * j ≡ 2 * j = omega arith in
-    let last : entriesOf l 0 k ≡ entriesOf l 0 j ++ (record { cell = getD l (2 * j) 0; old = getD l (2 * j + 1) 0 } ∷ []) = ap (entriesOf l 0) (sym ek) ∙ entries-snoc l 0 j ∙ rw e2 in
-    ap (undone (entriesOf l 0 j)) (es ∙ rw (ec, eo)) ∙ sym (undone-append (entriesOf l 0 j) (record { cell = getD l (2 * j) 0; old = getD l (2 * j + 1) 0 } ∷ []) cs) ∙ ap (λ (x : List Undo). undone x cs) (sym last) ∙ inv
+    let both : entriesOf l 0 k ≡ entriesOf l 0 j ++ entriesOf l (2 * j) n = ap (entriesOf l 0) (sym ek) ∙ entries-append l 0 j n ∙ rw e2 in
+    ap (undone (entriesOf l 0 j)) (es ∙ ap (λ (x : List Undo). undone x cs) ef) ∙ sym (undone-append (entriesOf l 0 j) (entriesOf l (2 * j) n) cs) ∙ ap (λ (x : List Undo). undone x cs) (sym both) ∙ inv
 
 -- Rows that are zero past their list
 

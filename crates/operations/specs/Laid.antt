@@ -21,10 +21,14 @@ operated o cs = record { did = operate o cs; old = content o cs }
 unfoldable pub afterwards : Op → Cells → Cells
 afterwards o cs = elim (operate o cs) [ Number y ↦ put o y cs | Fails ↦ cs ]
 
--- n undo entries that stand in l from place b on, each a cell and its old number
+-- the undo entry that stands in l at place b: a cell and its old number
+abbrev pub entryAt : List ℕ → ℕ → Undo
+entryAt l b = record { cell = getD l b 0; old = getD l (b + 1) 0 }
+
+-- n of them, from place b on
 unfoldable pub entriesOf : List ℕ → ℕ → ℕ → List Undo
 entriesOf l b zero = []
-entriesOf l b (suc n) = record { cell = getD l b 0; old = getD l (b + 1) 0 } ∷ entriesOf l (b + 2) n
+entriesOf l b (suc n) = entryAt l b ∷ entriesOf l (b + 2) n
 
 -- entries as numbers
 abbrev pub flat : List Undo → List ℕ

@@ -2,15 +2,16 @@
 // checks that read the table. Every function is total: a cell that is not there holds 0 and keeps nothing, as the definitions say.
 ghost use mathlib.Core.Path.{_≡_};
 ghost use mathlib.Core.List.{[]};
-ghost use Prim.Native.Nat.{_+_, _*_, _<_, min};
+ghost use Prim.Native.Nat.{_+_, _*_, _≤_, _<_, _^_, min};
 ghost use lib.ListN.{length, getD, set, take, drop};
 ghost use Rattle.model.specs.Operations.{known, uses, writes, mayFail, meaning, multi, last, pick};
 ghost use Rattle.model.specs.Steps.{undone, run};
 ghost use Rattle.model.specs.Refusals.{formedOp, blankOp, formedKind, formed, blank, inside, every};
-ghost use Rattle.operations.specs.Laid.{entriesOf, operated, afterwards, noteCount, noteRow, laid, cellBelow};
+ghost use Rattle.operations.specs.Laid.{entryAt, entriesOf, operated, afterwards, noteCount, noteRow, laid, cellBelow};
 use model::Did;
 use model::Fragment;
 use model::Op;
+use model::Undo;
 
 // "One table of codes says for each whether v is used, whether it may write and whether it may fail": place 0 is no code.
 const USES: [bool; 9] = [false, false, true, true, true, true, true, true, true];
@@ -133,24 +134,47 @@ pub fn operate_on(cells: &mut [u32], o: Op) -> Operated
     }
 }
 
-// "Undoing walks the entries from the newest to the oldest": `count` entries from the start of a row, each a cell and its old number.
-pub fn undo(cells: &mut [u32], entries: &[u32], count: u32)
-    ensures { λ _. ⌜ now (cells .exit) ≡ undone (entriesOf (now (entries .entry)) 0 count) (now (cells .entry)) ⌝ }
+// "Undoing walks the entries from the newest to the oldest": the lent ones, where they lie. One whose cell is not there changes nothing.
+pub(crate) fn undo_entries(cells: &mut [u32], entries: &[Undo])
+    ensures { λ _. ⌜ now (cells .exit) ≡ undone (now (entries .entry)) (now (cells .entry)) ⌝ }
 {
-    let mut k = count as usize;
-    while 0 < k {
-        k = k - 1;
-        let cell = number_at(entries, 2 * k);
-        let old = number_at(entries, 2 * k + 1);
-        put_at(cells, cell as usize, old);
+    let mut i = entries.len();
+    while 0 < i {
+        i = i - 1;
+        let u = entries[i];
+        let at = u.cell as usize;
+        if at < cells.len() {
+            cells[at] = u.old;
+        }
     }
 }
 
-// A count of operations, at most the row's eight places.
+// The first n of a few entries, lent for that walk: by value here, so that the checker covers whoever calls this.
+pub(crate) fn undo_few(cells: &mut [u32], few: [Undo; 8], n: usize)
+    requires { ⌜ n ≤ 8 ⌝ }
+    ensures { λ _. ⌜ now (cells .exit) ≡ undone (take n few) (now (cells .entry)) ⌝ }
+{
+    undo_entries(cells, &few[..n]);
+}
+
+// A count of operations, or of their entries: at most eight.
 pub(crate) fn places(count: u32) -> usize
     ensures { λ r. ⌜ r ≡ min count 8 ⌝ }
 {
     if count < 8 { count as usize } else { 8 }
+}
+
+// Entry k of a row of numbers. That an entry is 2 words there, its cell and its old number, is known here and in `note`.
+pub(crate) fn entry_at(row: &[u32], k: usize) -> Undo
+    requires { ⌜ k < 2 ^ 32 ⌝ }
+    ensures { λ r. ⌜ r ≡ entryAt (now (row .entry)) (2 * k) ⌝ }
+{
+    let cell = number_at(row, 2 * k);
+    let old = number_at(row, 2 * k + 1);
+    Undo {
+        cell: cell,
+        old: old,
+    }
 }
 
 // One entry more in a fragment's own row of entries, if the operation writes; how many there are then.
@@ -166,6 +190,35 @@ pub(crate) fn note(row: &mut [u32; 16], k: usize, o: Op, old: u32) -> usize
         k + 1
     } else {
         k
+    }
+}
+
+// n entries of a row, copied out from entry `from` on.
+pub(crate) fn few_entries(row: &[u32], from: usize, n: usize) -> [Undo; 8]
+    requires { ⌜ n ≤ 8 ⌝ }
+    requires { ⌜ from + n < 2 ^ 32 ⌝ }
+    ensures { λ r. ⌜ take n r ≡ entriesOf (now (row .entry)) (2 * from) n ⌝ }
+{
+    let mut few = [Undo { cell: 0, old: 0 }; 8];
+    let mut i: usize = 0;
+    while i < n {
+        let u = entry_at(row, from + i);
+        few[i] = u;
+        i = i + 1;
+    }
+    few
+}
+
+// Undoes the first `count` entries of a row, copied out a few at a time from the newest on: so there is no count that it cannot hold.
+pub fn undo(cells: &mut [u32], entries: &[u32], count: u32)
+    ensures { λ _. ⌜ now (cells .exit) ≡ undone (entriesOf (now (entries .entry)) 0 count) (now (cells .entry)) ⌝ }
+{
+    let mut k = count;
+    while 0 < k {
+        let n = places(k);
+        k = k - n as u32;
+        let few = few_entries(entries, k as usize, n);
+        undo_few(cells, few, n);
     }
 }
 

@@ -1,4 +1,4 @@
-use Prim.Native.Nat.{ℕ, _≤_, _<_, _+_, _*_, _-_}
+use Prim.Native.Nat.{ℕ, _≤_}
 use native.Mathlib.Omega.{arith}
 use mathlib.Core.Path.{_≡_, refl, sym, ap, _∙_}
 use lib.ListN.{length}
@@ -10,8 +10,9 @@ use Rattle.operations.proofs.undo.Statement.{statement}
 use Rattle.operations.proofs.undo.Tie as tie
 use Rattle.operations.proofs.undo.Reads as reads
 use Rattle.operations.proofs.undo.Lts as lts
-use Rattle.operations.proofs.number_at.Reads as number-at-reads
-use Rattle.operations.proofs.put_at.Reads as put-at-reads
+use Rattle.operations.proofs.few_entries.Reads as few-entries-reads
+use Rattle.operations.proofs.places.Reads as places-reads
+use Rattle.operations.proofs.undo_few.Reads as undo-few-reads
 
 abbrev Inv-loop : tie.InvT-loop
 Inv-loop cells₀ entries count k₀ cells k = (k ≤ count) × (length cells ≡ length cells₀) × (undone (entriesOf entries 0 k) cells ≡ undone (entriesOf entries 0 count) cells₀)
@@ -22,39 +23,37 @@ abbrev μ-loop : tie.MeasureT-loop
 loop-holds : tie.Need-loop-holds Inv-loop μ-loop
 loop-holds c = (search needs, refl, refl)
 
+places-requires : tie.Need-places-requires Inv-loop μ-loop
+places-requires c κs = search needs
+
+cast-k : tie.Need-cast-k Inv-loop μ-loop
+cast-k c = omega arith
+
 sub-k : tie.Need-sub-k Inv-loop μ-loop
-sub-k c = search needs
+sub-k c = omega arith
 
-mul-number-at : tie.Need-mul-number-at Inv-loop μ-loop
-mul-number-at c = search needs
+cast-few-entries : tie.Need-cast-few-entries Inv-loop μ-loop
+cast-few-entries c = search needs
 
-number-at-requires : tie.Need-number-at-requires Inv-loop μ-loop
-number-at-requires c κs = search needs
+few-entries-requires : tie.Need-few-entries-requires Inv-loop μ-loop
+few-entries-requires c κs = (omega arith, omega arith)
 
-mul-number-at-2 : tie.Need-mul-number-at-2 Inv-loop μ-loop
-mul-number-at-2 c = search needs
-
-add-number-at : tie.Need-add-number-at Inv-loop μ-loop
-add-number-at c = search needs
-
-number-at-requires-2 : tie.Need-number-at-requires-2 Inv-loop μ-loop
-number-at-requires-2 c κs = search needs
-
-cast-put-at : tie.Need-cast-put-at Inv-loop μ-loop
-cast-put-at c = search needs
-
-put-at-requires : tie.Need-put-at-requires Inv-loop μ-loop
-put-at-requires c κs = search needs
+undo-few-requires : tie.Need-undo-few-requires Inv-loop μ-loop
+undo-few-requires c κs = omega arith
 
 loop-less : tie.Need-loop-less Inv-loop μ-loop
-loop-less c = search needs
+loop-less c = omega arith
 
 loop-again : tie.Need-loop-again Inv-loop μ-loop
-loop-again c = let l = c .before .before .before .before .before .before .before .loop in (
-  omega arith,
-  c .before .before .put-at .kept .0 ∙ l .inv .1,
-  undo-turn (c .before .before .before .before .before .before .before .before .before .before .args .entries .now) (l .k) (l .cells) (c .before .before .put-at .last .0) _ _ _ (c .before .before .before .before .before .before .loop-test .taken) (c .before .before .before .before .before .number-at .ensures) (c .before .before .before .before .number-at2 .ensures) (c .before .before .put-at .ensures) (l .inv .2),
-)
+loop-again c = let a = c .before .before .before .before .before .before .before .before .before .before .args in
+    let l = c .before .before .before .before .before .before .before .loop in
+    let n = c .before .before .before .before .before .places .result in
+    let few = c .before .before .before .before .few-entries in
+    let u = c .before .before .undo-few in (
+      omega arith,
+      u .kept .0 ∙ l .inv .1,
+      undo-turn (a .entries .now) (l .k) n (few .result) (l .cells) (u .last .0) _ (omega arith) (few .ensures) (u .ensures) (l .inv .2),
+    )
 
 same-length : tie.Need-same-length Inv-loop μ-loop
 same-length c = search needs
@@ -71,14 +70,12 @@ undo-spec =
     Inv-loop
     μ-loop
     loop-holds
+    places-requires
+    cast-k
     sub-k
-    mul-number-at
-    number-at-requires
-    mul-number-at-2
-    add-number-at
-    number-at-requires-2
-    cast-put-at
-    put-at-requires
+    cast-few-entries
+    few-entries-requires
+    undo-few-requires
     loop-less
     loop-again
     same-length
