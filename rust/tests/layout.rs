@@ -214,6 +214,7 @@ fn rattle_fields() -> Vec<(String, u64)> {
     let attributes: Vec<_> =
         before.lines().rev().map(str::trim).take_while(|l| l.is_empty() || l.starts_with("#[")).collect();
     assert!(attributes.contains(&"#[repr(C)]"), "the record is not #[repr(C)]");
+    let lengths = constants(&source);
     let fields = between(&source, "pub struct Record {", "}").lines().map(str::trim).filter(|line| !line.is_empty());
     fields
         .map(|field| {
@@ -221,7 +222,7 @@ fn rattle_fields() -> Vec<(String, u64)> {
             let (name, kind) = field.split_once(':').expect("a field's type");
             let words = match kind.trim() {
                 "u32" => 1,
-                row => number(between(row, "[u32;", "]")),
+                row => lengths[between(row, "[u32;", "]").trim()],
             };
             (name.trim().into(), words)
         })

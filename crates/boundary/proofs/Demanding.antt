@@ -4,8 +4,8 @@ use mathlib.Core.Path.{refl}
 use mathlib.Core.List.{List, [], _∷_}
 use Rattle.model.specs.Operations.{Cells}
 use Rattle.record.specs.View.{fragmentAt}
-use Rattle.engine.specs.Carried.{Words, AllWords}
-use Rattle.engine.proofs.Carrying.{carried}
+use Rattle.carried.specs.Carried.{Words, AllWords}
+use Rattle.carried.proofs.Carrying.{carried}
 use Rattle.boundary.specs.Words.{eventOf}
 use Rattle.boundary.specs.Demanded.{LibraryCall, asCall, asCalls, LibraryDemand3}
 

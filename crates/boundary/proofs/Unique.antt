@@ -14,7 +14,7 @@ use Rattle.model.specs.declared.Event.{Event}
 use Rattle.model.specs.declared.Scheme.{Scheme}
 use Rattle.model.proofs.Unique.{Unique, UniqueBy, both-facts}
 use Rattle.record.specs.declared.Record.{Record}
-use Rattle.boundary.specs.Lent.{told, answered}
+use Rattle.boundary.specs.Lent.{calledWith, Leaves}
 use Rattle.boundary.proofs.harukdalis_start as start
 use Rattle.boundary.proofs.harukdalis_call as call
 use Rattle.boundary.proofs.harukdalis_call_blocking as call-blocking
@@ -46,7 +46,7 @@ most-cells-unique κs a z z′ ws ws′ p q = (cc, refl)
 
 -- two outcomes of a call by one scheme
 same-call : (σ : Scheme) (r : Record) (v : Event) (cells : Cells) (room : List ℕ) (n n′ k k′ : ℕ) (s s′ : Record) (cs cs′ : Cells) (x x′ : List ℕ)
-    → answered σ r v cells room (told n k s) cs x → answered σ r v cells room (told n′ k′ s′) cs′ x′ → (n ≡ n′) × (s ≡ s′) × (cs ≡ cs′) × (x ≡ x′) × (k ≡ k′)
+    → Leaves σ r v cells room (calledWith n k s) cs x → Leaves σ r v cells room (calledWith n′ k′ s′) cs′ x′ → (n ≡ n′) × (s ≡ s′) × (cs ≡ cs′) × (x ≡ x′) × (k ≡ k′)
 same-call σ r v cells room n n′ k k′ s s′ cs cs′ x x′ p q =
     let e = p .0 ∙ sym (q .0) in
     ((λ i. e i .number), (λ i. e i .next), p .1 ∙ sym (q .1), p .2 ∙ sym (q .2), (λ i. e i .answers))

@@ -1,5 +1,5 @@
 -- The walk of both calls of the library, `harukdalis_call` and `harukdalis_call_blocking`, by hand: their code is the same but for the tag of the
--- scheme. The record's borrow is opened and its counts are read; its three rows are lent to `turn` where they stand, for lifetimes that end with
+-- scheme. The record's borrow is opened and its counts are read; its three rows are lent to `call_words` where they stand, for lifetimes that end with
 -- the call, beside the lent cells, event and room at their own; what it gives is stored in the counts and in the count of answers. No row is copied.
 -- Assumes nothing.
 use mathlib.Core.Path.{_≡_, refl}
@@ -51,17 +51,17 @@ use Rattle.model.specs.declared.Scheme.{Scheme}
 use Rattle.model.proofs.Scheme as S
 use Rattle.model.proofs.Scheme.Laws as S′
 use denote.Enum.Laws as EL
-use Rattle.engine.specs.declared.Turned.{Turned}
-use Rattle.engine.specs.Called.{recordBy, turned}
+use Rattle.engine.specs.declared.LentCall.{LentCall}
+use Rattle.engine.specs.Called.{recordBy, lentCall}
 use Rattle.boundary.specs.Words.{eventOf}
-use Rattle.boundary.specs.Lent.{answered, told}
+use Rattle.boundary.specs.Lent.{Leaves, calledWith}
 use Rattle.record.proofs.Record as T
 use Rattle.record.proofs.Record.Laws as T′
-use Rattle.engine.proofs.Turned as D
-use Rattle.engine.proofs.Turned.Laws as D′
+use Rattle.engine.proofs.LentCall as D
+use Rattle.engine.proofs.LentCall.Laws as D′
 use Rattle.boundary.proofs.Apart as Apart
-use Rattle.boundary.proofs.turn as turn
-use Rattle.boundary.proofs.turn.Symbol.{name as #boundary·turn}
+use Rattle.boundary.proofs.call_words as call-words
+use Rattle.boundary.proofs.call_words.Symbol.{name as #boundary·call-words}
 use Rattle.boundary.proofs.harukdalis_call as f
 
 -- The code of both, with the tag of the scheme
@@ -75,12 +75,12 @@ slice κ m = tyStruct (38 ∷ 91 ∷ 93 ∷ []) (tcons (tyRef κ m word) (tcons 
 abbrev whole-of : ℕ → Place
 whole-of i = place i []
 
--- a field of the record, of what `turn` gives, and of a slice
+-- a field of the record, of what `call_words` gives, and of a slice
 abbrev of-record : ℕ → Place
 of-record k = place 1 (deref T′.mir ∷ field k ∷ [])
 
-abbrev of-turned : ℕ → Opd
-of-turned k = copy (place 6 (field k ∷ []))
+abbrev of-call : ℕ → Opd
+of-call k = copy (place 6 (field k ∷ []))
 
 abbrev pointed : ℕ → Place
 pointed i = place i (field 0 ∷ deref word ∷ [])
@@ -114,12 +114,12 @@ code d = record {
       (seq (assign (whole-of 16) (aggregate (all-of 15 ∷ counted 2 ∷ [])))
       (seq (assign (whole-of 17) (addrOf (pointed 4)))
       (seq (assign (whole-of 18) (aggregate (all-of 17 ∷ counted 4 ∷ [])))
-      (seq (call #boundary·turn (map all-of (7 ∷ 8 ∷ 9 ∷ 10 ∷ 11 ∷ 12 ∷ 13 ∷ 14 ∷ 16 ∷ 3 ∷ 18 ∷ [])) (whole-of 6))
-      (seq (assign (of-record 1) (rvOpd (of-turned 2)))
-      (seq (assign (of-record 2) (rvOpd (of-turned 3)))
-      (seq (assign (of-record 3) (rvOpd (of-turned 4)))
-      (seq (assign (place 5 (deref word ∷ [])) (rvOpd (of-turned 1)))
-      (seq (assign (whole-of 0) (rvOpd (of-turned 0)))
+      (seq (call #boundary·call-words (map all-of (7 ∷ 8 ∷ 9 ∷ 10 ∷ 11 ∷ 12 ∷ 13 ∷ 14 ∷ 16 ∷ 3 ∷ 18 ∷ [])) (whole-of 6))
+      (seq (assign (of-record 1) (rvOpd (of-call 2)))
+      (seq (assign (of-record 2) (rvOpd (of-call 3)))
+      (seq (assign (of-record 3) (rvOpd (of-call 4)))
+      (seq (assign (place 5 (deref word ∷ [])) (rvOpd (of-call 1)))
+      (seq (assign (whole-of 0) (rvOpd (of-call 0)))
       return)))))))))))))))));
 }
 
@@ -131,15 +131,15 @@ abbrev pub clauses : Scheme → {M : Type 1} (𝓤 : URA M) → Clauses 𝓤 f.e
 clauses σ 𝓤 κs a = record {
   ghost = Unit {0};
   requires = λ _. emp 𝓤;
-  ensures = λ _ n e. fact 𝓤 (answered σ (a .0 .now) (eventOf (a .1 .1 .0 .now)) (a .1 .0 .now) (a .1 .1 .1 .0 .now) (told n (e .1 .1 .1 .1 .0 .now) (e .0 .now)) (e .1 .0 .now) (e .1 .1 .1 .0 .now));
+  ensures = λ _ n e. fact 𝓤 (Leaves σ (a .0 .now) (eventOf (a .1 .1 .0 .now)) (a .1 .0 .now) (a .1 .1 .1 .0 .now) (calledWith n (e .1 .1 .1 .1 .0 .now) (e .0 .now)) (e .1 .0 .now) (e .1 .1 .1 .0 .now));
 }
 
 abbrev stayed : Stays (f.ended .signature .params) (f.ended .kept)
 stayed = (stay-ref (0 ∷ []) tt (plain (λ _. T.the-row)), (gave-slice (1 ∷ []) tt (plain (λ _. u32)), (stay-none-slice (2 ∷ []) tt (plain (λ _. u32)) yes, (gave-slice (3 ∷ []) tt (plain (λ _. u32)), (stay-ref (4 ∷ []) tt (plain (λ _. u32)), tt)))))
 
 -- the contract that the proof cites
-abbrev pub Turn : {M : Type 1} (𝓤 : URA M) (H : Heap 𝓤) (A : Atoms 𝓤) (at-mem : Memory → SProp 𝓤) (run : Routine → Fun 𝓤) → Contract 𝓤
-Turn 𝓤 H A at-mem run = tripleOf 𝓤 H A turn.signature (turn.spec 𝓤 H A at-mem run)
+abbrev pub CallWords : {M : Type 1} (𝓤 : URA M) (H : Heap 𝓤) (A : Atoms 𝓤) (at-mem : Memory → SProp 𝓤) (run : Routine → Fun 𝓤) → Contract 𝓤
+CallWords 𝓤 H A at-mem run = tripleOf 𝓤 H A call-words.signature (call-words.spec 𝓤 H A at-mem run)
 
 module _ (σ : Scheme) (tag : ℕ) (small : Holds (ltb tag (2 ^ bits w8))) (typed : Holds (hasTy S′.mir (tagged tag)) × WT (tagged tag)) (is-tag : Is S.the-row σ (tagged tag ∷ [])) where
   module _ {M : Type 1} (𝓤 : URA M) (H : Heap 𝓤) (A : Atoms 𝓤) (W : Given 𝓤 H A) (at-mem : Memory → SProp 𝓤) (run : Routine → Fun 𝓤) (κ₀ κ₁ κ₂ κ₃ κ₄ : Lft) (q₀ q₁ q₂ q₃ q₄ : Share) (b o : ℕ) (γ : GName) (h : Record) (cs ev rm : RefT (List ℕ)) (b₅ o₅ : ℕ) (γ₅ : GName) (k : ℕ) where
@@ -194,8 +194,8 @@ module _ (σ : Scheme) (tag : ℕ) (small : Holds (ltb tag (2 ^ bits w8))) (type
       abbrev UndoOwn : Fml
       UndoOwn = MutRef (named 2) (α₈ ∷ []) (Array u32 368) .own undo (vptr b (o + 8208) ∷ [])
 
-      -- what `turn`'s triple binds outside
-      abbrev to : Turn 𝓤 H A at-mem run .Ghost
+      -- what `call_words`'s triple binds outside
+      abbrev to : CallWords 𝓤 H A at-mem run .Ghost
       to = (
         (
           (α₆ ∷ [], (α₇ ∷ [], (α₈ ∷ [], (κ₁, (κ₂, (κ₃, tt)))))),
@@ -212,7 +212,7 @@ module _ (σ : Scheme) (tag : ℕ) (small : Holds (ltb tag (2 ^ bits w8))) (type
           ‵ (flft (α₆ ∷ []) fullShare) ∷ ‵ (flft (α₇ ∷ []) fullShare) ∷ ‵ (flft (α₈ ∷ []) fullShare) ∷ ‵ (flft κ₁ q₁) ∷ ‵ (flft κ₂ q₂) ∷ ‵ (flft κ₃ q₃) ∷
           ‵ LiveOwn ∷ ‵ RunsOwn ∷ ‵ UndoOwn ∷ ‵ (MutSlice (named 1) κ₁ u32 .own cs (vc ∷ [])) ∷ ‵ Event-own ∷ ‵ (MutSlice (named 3) κ₃ u32 .own rm (vm ∷ [])) ∷ []
 
-      asked : h .count < 2 ^ 32 → h .largest < 2 ^ 32 → h .uncommitted < 2 ^ 32 → h .waiting < 2 ^ 32 → ent 𝓤 (⋆ 𝓤 H A Asked) (⋆ 𝓤 H A (raw (Turn 𝓤 H A at-mem run .pre to) ∷ []))
+      asked : h .count < 2 ^ 32 → h .largest < 2 ^ 32 → h .uncommitted < 2 ^ 32 → h .waiting < 2 ^ 32 → ent 𝓤 (⋆ 𝓤 H A Asked) (⋆ 𝓤 H A (raw (CallWords 𝓤 H A at-mem run .pre to) ∷ []))
       asked fc fl fu fw =
           qed W Asked ∵
           nothing ! $ move ! (6 ∷ 0 ∷ []) $ join ! $ move ! (5 ∷ 0 ∷ []) $ join ! $ move ! (4 ∷ 0 ∷ []) $ join ! $ move ! (3 ∷ 0 ∷ []) $ join ! $ move ! (2 ∷ 0 ∷ []) $ join ! $ move ! (1 ∷ 0 ∷ []) $ join ! $
@@ -222,9 +222,9 @@ module _ (σ : Scheme) (tag : ℕ) (small : Holds (ltb tag (2 ^ bits w8))) (type
           owned ! u32 (Is u32) (uint-makes 𝓤 H A W w32) (h .largest) _ (refl, fl) $ fjoin ! $ owned ! u32 (Is u32) (uint-makes 𝓤 H A W w32) (h .count) _ (refl, fc) $ fjoin ! $ owned ! S.the-row (Is S.the-row) (EL.makes S.the-type S′.the-plain 𝓤 H A) σ _ is-tag $ fjoin ! $
           move ! (1 ∷ 0 ∷ []) $ join ! $ frame ! $ done !
 
-    -- what `turn` says
+    -- what `call_words` says
     abbrev Said : Called → List ℕ → List ℕ → Type 0
-    Said d ys zs = answered σ h (eventOf (ev .now)) (cs .now) (rm .now) d ys zs
+    Said d ys zs = Leaves σ h (eventOf (ev .now)) (cs .now) (rm .now) d ys zs
 
     exits : (d : Called) (ys zs : List ℕ) → d .number < 2 ^ 32 → length ys ≡ length (cs .now) → length zs ≡ length (rm .now) → Said d ys zs
         → ent 𝓤
@@ -251,15 +251,15 @@ module _ (σ : Scheme) (tag : ℕ) (small : Holds (ltb tag (2 ^ bits w8))) (type
     abbrev back : LastsOf → Record
     back ws = recordBy (h .count) (h .largest) (h .uncommitted) (h .waiting) (ws .1 .1 .1 .1 .1 .0) (ws .1 .1 .1 .1 .1 .1 .0) (ws .1 .1 .1 .1 .1 .1 .1 .0)
 
-    abbrev next : Turned → LastsOf → Record
+    abbrev next : LentCall → LastsOf → Record
     next d ws = recordBy (h .count) (d .largest) (d .uncommitted) (d .waiting) (ws .1 .1 .1 .1 .1 .0) (ws .1 .1 .1 .1 .1 .1 .0) (ws .1 .1 .1 .1 .1 .1 .1 .0)
 
-    made : (d : Turned) (ws : LastsOf) → Is T.the-row (back ws) (LL.vals T.the-type T′.the-laws (back ws)) → d .largest < 2 ^ 32 → d .uncommitted < 2 ^ 32 → d .waiting < 2 ^ 32 → Is T.the-row (next d ws) (LL.vals T.the-type T′.the-laws (next d ws))
+    made : (d : LentCall) (ws : LastsOf) → Is T.the-row (back ws) (LL.vals T.the-type T′.the-laws (back ws)) → d .largest < 2 ^ 32 → d .uncommitted < 2 ^ 32 → d .waiting < 2 ^ 32 → Is T.the-row (next d ws) (LL.vals T.the-type T′.the-laws (next d ws))
     made d ws was fl fu fw =
         let o = LL.owed T.the-type T′.the-laws (back ws) (LL.vals T.the-type T′.the-laws (back ws)) was in
         LL.owes T.the-type T′.the-laws (next d ws) (o .0, ((refl, fl), ((refl, fu), ((refl, fw), o .1 .1 .1 .1))))
 
-    module _ (C : Calls 𝓤 H) (Λ : Loops 𝓤 H) (fm : FmC 𝓤 H (W .laws) C) (known : Triple 𝓤 (C #boundary·turn) (Turn 𝓤 H A at-mem run)) where
+    module _ (C : Calls 𝓤 H) (Λ : Loops 𝓤 H) (fm : FmC 𝓤 H (W .laws) C) (known : Triple 𝓤 (C #boundary·call-words) (CallWords 𝓤 H A at-mem run)) where
       walk : Is (MutSlice (named 1) κ₁ u32) cs (vc ∷ []) → Is (ShrSlice (named 2) κ₂ u32) ev (ve ∷ []) → Is (MutSlice (named 3) κ₃ u32) rm (vm ∷ [])
           → ent 𝓤 (onEntry 𝓤 H A f.signature (κ₀, (κ₁, (κ₂, (κ₃, (κ₄, tt))))) (q₀, (q₁, (q₂, (q₃, (q₄, tt))))) x at) (WpFn 𝓤 H C Λ (code tag) (vptr b o ∷ vc ∷ ve ∷ vm ∷ vptr b₅ o₅ ∷ []) Post)
       walk pc pe pm =
@@ -302,13 +302,13 @@ module _ (σ : Scheme) (tag : ℕ) (small : Holds (ltb tag (2 ^ bits w8))) (type
           move ! (7 ∷ []) $ use1 W (later (some (λ (γ : GName). ‵ (MutRef (named 2) (α₈ ∷ []) (Array u32 368) .own (record { ptr = (b, o + 8208); name = γ; now = h .undo }) (vptr b (o + 8208) ∷ [])) ⊛ ‵ (flent (α₈ ∷ []) (Body (mem (Array u32 368)) b (o + 8208) γ))))) (lends-ref 𝓤 H A W (Array u32 368) (named 2) (α₈ ∷ []) (h .undo) b (o + 8208)) $ await ! tt $ pick ! (λ γ₈. split ! $
           -- [undo lent; its lender's part; runs; its; live; its; token 8; 7; 6; the numbers; the way back; the open borrow; obs; auth; _18 at 14; …; _1 at 48; room for _0 at 50; obs 5 at 52; borrow 5; token 4; token 1; 2; 3; cells; event; room; event again; …]
           move ! (8 ∷ 7 ∷ 6 ∷ 55 ∷ 56 ∷ 57 ∷ 4 ∷ 2 ∷ 0 ∷ 58 ∷ 59 ∷ 60 ∷ []) $
-          cut (Asked α₆ α₇ α₈ γ₆ γ₇ γ₈) (raw (Turn 𝓤 H A at-mem run .pre (to α₆ α₇ α₈ γ₆ γ₇ γ₈)) ∷ []) _ (asked α₆ α₇ α₈ γ₆ γ₇ γ₈ (LL.owed T.the-type T′.the-laws h (mach ∷ []) g .0 .1) (LL.owed T.the-type T′.the-laws h (mach ∷ []) g .1 .0 .1) (LL.owed T.the-type T′.the-laws h (mach ∷ []) g .1 .1 .0 .1) (LL.owed T.the-type T′.the-laws h (mach ∷ []) g .1 .1 .1 .0 .1)) $
-          -- [what `turn` asks; undo's lender's part; runs'; live's; the numbers; the way back; the open borrow; obs; auth; _18 at 9; …; _1 at 43; room for _0 at 45; obs 5 at 47; borrow 5; token 4; event again; …]
-          calls-at ! fm (Turn 𝓤 H A at-mem run) known (to α₆ α₇ α₈ γ₆ γ₇ γ₈) (and-then ! (load ! (from ! (stop !)) (look ! 31 refl)) (and-then ! (load ! (from ! (stop !)) (look ! 29 refl)) (and-then ! (load ! (from ! (stop !)) (look ! 27 refl)) (and-then ! (load ! (from ! (stop !)) (look ! 25 refl)) (and-then ! (load ! (from ! (stop !)) (look ! 23 refl)) (and-then ! (load ! (from ! (stop !)) (look ! 21 refl)) (and-then ! (load ! (from ! (stop !)) (look ! 19 refl)) (and-then ! (load ! (from ! (stop !)) (look ! 17 refl)) (and-then ! (load ! (from ! (stop !)) (look ! 13 refl)) (and-then ! (load ! (from ! (stop !)) (look ! 39 refl)) (and-then ! (load ! (from ! (stop !)) (look ! 9 refl)) (no-more !)))))))))))) (λ u.
-          use1 W (later (some (λ (d : Turned). ((‵ (flft (α₆ ∷ []) fullShare) ⊛ (‵ (flft (α₇ ∷ []) fullShare) ⊛ (‵ (flft (α₈ ∷ []) fullShare) ⊛ Tokens))) ⊛ ‵ (D.the-row .own d (u ∷ []))) ⊛ raw (ensured 𝓤 H A turn.ended (turn.clauses 𝓤 H A at-mem run) (α₆ ∷ [], (α₇ ∷ [], (α₈ ∷ [], (κ₁, (κ₂, (κ₃, tt)))))) (args α₆ α₇ α₈ γ₆ γ₇ γ₈) tt d)))) (id⊢ 𝓤 _) $ await ! tt $ pick ! (λ d.
-          -- what `turn` ensures, at some last rows, cells and room
-          split ! $ move ! (1 ∷ []) $ use1 W (some (λ (ws : LastsOf). ‵ (lasts turn.ended (α₆ ∷ [], (α₇ ∷ [], (α₈ ∷ [], (κ₁, (κ₂, (κ₃, tt)))))) (args α₆ α₇ α₈ γ₆ γ₇ γ₈) ws) ⊛ raw (fact 𝓤 (Said (turned (h .count) d (ws .1 .1 .1 .1 .1 .0) (ws .1 .1 .1 .1 .1 .1 .0) (ws .1 .1 .1 .1 .1 .1 .1 .0)) (ws .1 .1 .1 .1 .1 .1 .1 .1 .0) (ws .1 .1 .1 .1 .1 .1 .1 .1 .1 .1 .0))))) (id⊢ 𝓤 _) $ pick ! (λ ws.
-          split ! $ move ! (1 ∷ []) $ heard ! (Said (turned (h .count) d (ws .1 .1 .1 .1 .1 .0) (ws .1 .1 .1 .1 .1 .1 .0) (ws .1 .1 .1 .1 .1 .1 .1 .0)) (ws .1 .1 .1 .1 .1 .1 .1 .1 .0) (ws .1 .1 .1 .1 .1 .1 .1 .1 .1 .1 .0)) (λ e.
+          cut (Asked α₆ α₇ α₈ γ₆ γ₇ γ₈) (raw (CallWords 𝓤 H A at-mem run .pre (to α₆ α₇ α₈ γ₆ γ₇ γ₈)) ∷ []) _ (asked α₆ α₇ α₈ γ₆ γ₇ γ₈ (LL.owed T.the-type T′.the-laws h (mach ∷ []) g .0 .1) (LL.owed T.the-type T′.the-laws h (mach ∷ []) g .1 .0 .1) (LL.owed T.the-type T′.the-laws h (mach ∷ []) g .1 .1 .0 .1) (LL.owed T.the-type T′.the-laws h (mach ∷ []) g .1 .1 .1 .0 .1)) $
+          -- [what `call_words` asks; undo's lender's part; runs'; live's; the numbers; the way back; the open borrow; obs; auth; _18 at 9; …; _1 at 43; room for _0 at 45; obs 5 at 47; borrow 5; token 4; event again; …]
+          calls-at ! fm (CallWords 𝓤 H A at-mem run) known (to α₆ α₇ α₈ γ₆ γ₇ γ₈) (and-then ! (load ! (from ! (stop !)) (look ! 31 refl)) (and-then ! (load ! (from ! (stop !)) (look ! 29 refl)) (and-then ! (load ! (from ! (stop !)) (look ! 27 refl)) (and-then ! (load ! (from ! (stop !)) (look ! 25 refl)) (and-then ! (load ! (from ! (stop !)) (look ! 23 refl)) (and-then ! (load ! (from ! (stop !)) (look ! 21 refl)) (and-then ! (load ! (from ! (stop !)) (look ! 19 refl)) (and-then ! (load ! (from ! (stop !)) (look ! 17 refl)) (and-then ! (load ! (from ! (stop !)) (look ! 13 refl)) (and-then ! (load ! (from ! (stop !)) (look ! 39 refl)) (and-then ! (load ! (from ! (stop !)) (look ! 9 refl)) (no-more !)))))))))))) (λ u.
+          use1 W (later (some (λ (d : LentCall). ((‵ (flft (α₆ ∷ []) fullShare) ⊛ (‵ (flft (α₇ ∷ []) fullShare) ⊛ (‵ (flft (α₈ ∷ []) fullShare) ⊛ Tokens))) ⊛ ‵ (D.the-row .own d (u ∷ []))) ⊛ raw (ensured 𝓤 H A call-words.ended (call-words.clauses 𝓤 H A at-mem run) (α₆ ∷ [], (α₇ ∷ [], (α₈ ∷ [], (κ₁, (κ₂, (κ₃, tt)))))) (args α₆ α₇ α₈ γ₆ γ₇ γ₈) tt d)))) (id⊢ 𝓤 _) $ await ! tt $ pick ! (λ d.
+          -- what `call_words` ensures, at some last rows, cells and room
+          split ! $ move ! (1 ∷ []) $ use1 W (some (λ (ws : LastsOf). ‵ (lasts call-words.ended (α₆ ∷ [], (α₇ ∷ [], (α₈ ∷ [], (κ₁, (κ₂, (κ₃, tt)))))) (args α₆ α₇ α₈ γ₆ γ₇ γ₈) ws) ⊛ raw (fact 𝓤 (Said (lentCall (h .count) d (ws .1 .1 .1 .1 .1 .0) (ws .1 .1 .1 .1 .1 .1 .0) (ws .1 .1 .1 .1 .1 .1 .1 .0)) (ws .1 .1 .1 .1 .1 .1 .1 .1 .0) (ws .1 .1 .1 .1 .1 .1 .1 .1 .1 .1 .0))))) (id⊢ 𝓤 _) $ pick ! (λ ws.
+          split ! $ move ! (1 ∷ []) $ heard ! (Said (lentCall (h .count) d (ws .1 .1 .1 .1 .1 .0) (ws .1 .1 .1 .1 .1 .1 .0) (ws .1 .1 .1 .1 .1 .1 .1 .0)) (ws .1 .1 .1 .1 .1 .1 .1 .1 .0) (ws .1 .1 .1 .1 .1 .1 .1 .1 .1 .1 .0)) (λ e.
           fsplit ! $ move ! (1 ∷ []) $ fsplit ! $ move ! (1 ∷ []) $ fsplit ! $ move ! (1 ∷ []) $ fsplit ! $ move ! (1 ∷ []) $ fsplit ! $ move ! (1 ∷ []) $ fsplit ! $ move ! (1 ∷ []) $ fsplit ! $ move ! (1 ∷ []) $ fsplit ! $ move ! (1 ∷ []) $ fsplit ! $ fsplit ! $ move ! (1 ∷ []) $ feqL ! (λ ly.
           move ! (1 ∷ []) $ fsplit ! $ move ! (1 ∷ []) $ fsplit ! $ fsplit ! $ move ! (1 ∷ []) $ feqL ! (λ lz.
           -- [room's last; …; …; cells' last; undo's; runs'; live's; …; …; …; …; the tokens and the result; …]
@@ -340,16 +340,16 @@ module _ (σ : Scheme) (tag : ℕ) (small : Holds (ltb tag (2 ^ bits w8))) (type
           assigns ! (of-opd ! (load ! (from ! (fld ! refl (stop !))) (look-in ! 33 (sub ! 0 refl (whole !))))) (from ! (stop !)) (init ! 45 refl (tt, record { fits = LL.owed D.the-type D′.the-laws d (u ∷ []) is .0 .1 })) $
           returns ! (look ! 45 refl) $ forget ! 9 refl $ forget ! 11 refl $ forget ! 13 refl $ forget ! 15 refl $ forget ! 17 refl $ forget ! 19 refl $ forget ! 21 refl $ forget ! 23 refl $ forget ! 25 refl $ forget ! 27 refl $ forget ! 29 refl $ forget ! 31 refl $ forget ! 33 refl $ forget ! 35 refl $ forget ! 37 refl $ forget ! 39 refl $ forget ! 41 refl $ forget ! 43 refl $ forget ! 45 refl $
           move ! (45 ∷ 46 ∷ []) $ free1 ! $ move ! (43 ∷ 44 ∷ []) $ free1 ! $ move ! (41 ∷ 42 ∷ []) $ free1 ! $ move ! (39 ∷ 40 ∷ []) $ free1 ! $ move ! (37 ∷ 38 ∷ []) $ free1 ! $ move ! (35 ∷ 36 ∷ []) $ free1 ! $ move ! (33 ∷ 34 ∷ []) $ free1 ! $ move ! (31 ∷ 32 ∷ []) $ free1 ! $ move ! (29 ∷ 30 ∷ []) $ free1 ! $ move ! (27 ∷ 28 ∷ []) $ free1 ! $ move ! (25 ∷ 26 ∷ []) $ free1 ! $ move ! (23 ∷ 24 ∷ []) $ free1 ! $ move ! (21 ∷ 22 ∷ []) $ free1 ! $ move ! (19 ∷ 20 ∷ []) $ free1 ! $ move ! (17 ∷ 18 ∷ []) $ free1 ! $ move ! (15 ∷ 16 ∷ []) $ free1 ! $ move ! (13 ∷ 14 ∷ []) $ free1 ! $ move ! (11 ∷ 12 ∷ []) $ free1 ! $ move ! (9 ∷ 10 ∷ []) $ free1 ! $ free0 ! $
-          keep ! (3 ∷ 4 ∷ 5 ∷ 0 ∷ 1 ∷ 2 ∷ 6 ∷ 8 ∷ 9 ∷ 7 ∷ []) $ by ! (exits (turned (h .count) d (ws .1 .1 .1 .1 .1 .0) (ws .1 .1 .1 .1 .1 .1 .0) (ws .1 .1 .1 .1 .1 .1 .1 .0)) (ws .1 .1 .1 .1 .1 .1 .1 .1 .0) (ws .1 .1 .1 .1 .1 .1 .1 .1 .1 .1 .0) (LL.owed D.the-type D′.the-laws d (u ∷ []) is .0 .1) ly lz e))))))))))))))))))))))))))))))))))))))
+          keep ! (3 ∷ 4 ∷ 5 ∷ 0 ∷ 1 ∷ 2 ∷ 6 ∷ 8 ∷ 9 ∷ 7 ∷ []) $ by ! (exits (lentCall (h .count) d (ws .1 .1 .1 .1 .1 .0) (ws .1 .1 .1 .1 .1 .1 .0) (ws .1 .1 .1 .1 .1 .1 .1 .0)) (ws .1 .1 .1 .1 .1 .1 .1 .1 .0) (ws .1 .1 .1 .1 .1 .1 .1 .1 .1 .1 .0) (LL.owed D.the-type D′.the-laws d (u ∷ []) is .0 .1) ly lz e))))))))))))))))))))))))))))))))))))))
 
   module _ {M : Type 1} (𝓤 : URA M) (H : Heap 𝓤) (A : Atoms 𝓤) (W : Given 𝓤 H A) (at-mem : Memory → SProp 𝓤) (run : Routine → Fun 𝓤) where
-    walks : (C : Calls 𝓤 H) (Λ : Loops 𝓤 H) → FmC 𝓤 H (W .laws) C → Triple 𝓤 (C #boundary·turn) (Turn 𝓤 H A at-mem run) → Walks 𝓤 H A f.ended stayed (WpFn 𝓤 H C Λ (code tag)) (clauses σ 𝓤)
+    walks : (C : Calls 𝓤 H) (Λ : Loops 𝓤 H) → FmC 𝓤 H (W .laws) C → Triple 𝓤 (C #boundary·call-words) (CallWords 𝓤 H A at-mem run) → Walks 𝓤 H A f.ended stayed (WpFn 𝓤 H C Λ (code tag)) (clauses σ 𝓤)
     walks C Λ fm known = walked 𝓤 H A f.ended stayed (clauses σ 𝓤) (WpFn 𝓤 H C Λ (code tag)) (λ κs. (ptr-vals, (slice-vals, (slice-vals, (slice-vals, (ptr-vals, tt))))))
         (λ κs. (mut-tells (named 0) (κs .0) T.the-row, (mut-slice-tells (named 1) (κs .1 .0) u32, (shr-slice-tells (named 2) (κs .1 .1 .0) u32, (mut-slice-tells (named 3) (κs .1 .1 .1 .0) u32, (mut-tells (named 4) (κs .1 .1 .1 .1 .0) u32, tt))))))
         (λ κs qs bounds a _ are. via 𝓤 _ (fst∗ 𝓤 _ (emp 𝓤))
         (walk 𝓤 H A W at-mem run (κs .0) (κs .1 .0) (κs .1 .1 .0) (κs .1 .1 .1 .0) (κs .1 .1 .1 .1 .0) (qs .0) (qs .1 .0) (qs .1 .1 .0) (qs .1 .1 .1 .0) (qs .1 .1 .1 .1 .0) (a .0 .ptr .0) (a .0 .ptr .1) (a .0 .name) (a .0 .now) (a .1 .0) (a .1 .1 .0) (a .1 .1 .1 .0) (a .1 .1 .1 .1 .0 .ptr .0) (a .1 .1 .1 .1 .0 .ptr .1) (a .1 .1 .1 .1 .0 .name) (a .1 .1 .1 .1 .0 .now) C Λ fm known (are .1 .0) (are .1 .1 .0) (are .1 .1 .1 .0)))
 
-  pub meets : {M : Type 1} (𝓤 : URA M) (H : Heap 𝓤) (A : Atoms 𝓤) → Given 𝓤 H A → (at-mem : Memory → SProp 𝓤) (run : Routine → Fun 𝓤) (𝓣 : Tables 𝓤 H) → Triple 𝓤 (𝓣 .C #boundary·turn) (Turn 𝓤 H A at-mem run)
+  pub meets : {M : Type 1} (𝓤 : URA M) (H : Heap 𝓤) (A : Atoms 𝓤) → Given 𝓤 H A → (at-mem : Memory → SProp 𝓤) (run : Routine → Fun 𝓤) (𝓣 : Tables 𝓤 H) → Triple 𝓤 (𝓣 .C #boundary·call-words) (CallWords 𝓤 H A at-mem run)
       → Meets 𝓤 H A f.signature (WpFn 𝓤 H (𝓣 .C) (𝓣 .Λ) (code tag)) (closing 𝓤 H A f.ended (clauses σ 𝓤))
   meets 𝓤 H A W at-mem run 𝓣 known =
       walk-meets 𝓤 H A f.ended stayed W

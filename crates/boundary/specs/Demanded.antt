@@ -6,7 +6,7 @@ use mathlib.Core.List.{List, map}
 use Rattle.model.specs.Operations.{Cells}
 use Rattle.model.specs.Refusals.{Call}
 use Rattle.model.specs.declared.Scheme.{Scheme}
-use Rattle.engine.specs.Carried.{returned, RecordRun, onwardR, runsR, freshR, LendsR, AllLendR, CellsHoldR, QueueOrderR, SettlingOrderR, PlainRightR, DependentRightR}
+use Rattle.carried.specs.Carried.{returned, RecordRun, onwardR, runsR, freshR, LendsR, AllLendR, CellsHoldR, QueueOrderR, SettlingOrderR, PlainRightR, DependentRightR}
 use Rattle.boundary.specs.Words.{eventOf}
 
 -- a call of the library: by speculation or by blocking, the words of its event, the cells and the room lent to it

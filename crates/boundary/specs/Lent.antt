@@ -15,9 +15,9 @@ abbrev pub started : ℕ → ℕ → Record → Type 0
 started cells number next = record { number = number; next = next } ≡ freshOf cells
 
 -- the number returned, the count of answers and the record left by a call
-abbrev pub told : ℕ → ℕ → Record → Called
-told number answers next = record { number = number; answers = answers; next = next }
+abbrev pub calledWith : ℕ → ℕ → Record → Called
+calledWith number answers next = record { number = number; answers = answers; next = next }
 
 -- what a call tells, and the cells and the room that it leaves
-abbrev pub answered : Scheme → Record → Event → Cells → List ℕ → Called → Cells → List ℕ → Type 0
-answered σ r v cells room d cells′ room′ = (d ≡ called σ r v cells room) × (cells′ ≡ cellsAfter σ r v cells room) × (room′ ≡ roomAfter σ r v cells room)
+abbrev pub Leaves : Scheme → Record → Event → Cells → List ℕ → Called → Cells → List ℕ → Type 0
+Leaves σ r v cells room d cells′ room′ = (d ≡ called σ r v cells room) × (cells′ ≡ cellsAfter σ r v cells room) × (room′ ≡ roomAfter σ r v cells room)

@@ -3,9 +3,10 @@ use Prim.Native.Nat.{ℕ, _+_, _*_}
 use mathlib.Core.List.{List}
 use lib.Dec.{eqb}
 use lib.ListN.{length, getD}
-use Rattle.model.specs.Limits.{depth, mostLive, mostEntries, eventWords}
+use Rattle.model.specs.Limits.{eventWords}
 use Rattle.model.specs.Operations.{pick}
 use Rattle.model.specs.declared.Event.{Event}
+use Rattle.record.specs.Widths.{liveLength, runsLength, undoLength}
 use Rattle.record.specs.View.{fragmentAt}
 
 -- "29 words an event: kind (1 fragment, 2 commit, 3 abort), number, flags (1 multi + 2 last), coordinator, operation count, eight times
@@ -13,6 +14,6 @@ use Rattle.record.specs.View.{fragmentAt}
 unfoldable pub eventOf : List ℕ → Event
 eventOf l = record { kind = pick (eqb (length l) eventWords) (getD l 0 0) 0; number = getD l 1 0; fragment = fragmentAt l 1 }
 
--- four counts, 28 words for each live transaction, 16 for each uncommitted one and 2 for each undo entry, of four bytes each
+-- four counts and the record's three rows, in words of four bytes each
 abbrev pub recordBytes : ℕ
-recordBytes = 4 * (4 + 28 * mostLive + 16 * depth + 2 * mostEntries)
+recordBytes = 4 * (4 + liveLength + runsLength + undoLength)

@@ -4,9 +4,9 @@ ghost use mathlib.Core.Path.{_≡_};
 ghost use Rattle.model.specs.Limits.{mostCells, leastRoom, eventWords, answerWords};
 ghost use Rattle.model.specs.declared.Scheme.the-variants.{Speculation, Blocking};
 ghost use Rattle.boundary.specs.Words.{eventOf, recordBytes};
-ghost use Rattle.engine.specs.Called.{recordBy, turned};
-ghost use Rattle.boundary.specs.Lent.{started, told, answered};
-use engine::Turned;
+ghost use Rattle.engine.specs.Called.{recordBy, lentCall};
+ghost use Rattle.boundary.specs.Lent.{started, calledWith, Leaves};
+use engine::LentCall;
 use model::Event;
 use model::Scheme;
 use record::Record;
@@ -32,7 +32,7 @@ pub(crate) fn event_of(words: &[u32]) -> Event
 }
 
 // A call by a scheme on lent rows, with the event in words.
-pub(crate) fn turn(
+pub(crate) fn call_words(
     scheme: Scheme,
     count: u32,
     largest: u32,
@@ -44,11 +44,11 @@ pub(crate) fn turn(
     cells: &mut [u32],
     event: &[u32],
     room: &mut [u32],
-) -> Turned
-    ensures { λ d. ⌜ answered scheme (recordBy count largest uncommitted waiting (now (live .entry)) (now (runs .entry)) (now (undo .entry))) (eventOf (now (event .entry))) (now (cells .entry)) (now (room .entry)) (turned count d (now (live .exit)) (now (runs .exit)) (now (undo .exit))) (now (cells .exit)) (now (room .exit)) ⌝ }
+) -> LentCall
+    ensures { λ d. ⌜ Leaves scheme (recordBy count largest uncommitted waiting (now (live .entry)) (now (runs .entry)) (now (undo .entry))) (eventOf (now (event .entry))) (now (cells .entry)) (now (room .entry)) (lentCall count d (now (live .exit)) (now (runs .exit)) (now (undo .exit))) (now (cells .exit)) (now (room .exit)) ⌝ }
 {
     let v = event_of(event);
-    engine::turn(
+    engine::call_lent(
         scheme,
         count,
         largest,
@@ -82,9 +82,9 @@ pub extern "C" fn harukdalis_call(
     room: &mut [u32],
     answers: &mut u32,
 ) -> u32
-    ensures { λ n. ⌜ answered Speculation (now (r .entry)) (eventOf (now (event .entry))) (now (cells .entry)) (now (room .entry)) (told n (now (answers .exit)) (now (r .exit))) (now (cells .exit)) (now (room .exit)) ⌝ }
+    ensures { λ n. ⌜ Leaves Speculation (now (r .entry)) (eventOf (now (event .entry))) (now (cells .entry)) (now (room .entry)) (calledWith n (now (answers .exit)) (now (r .exit))) (now (cells .exit)) (now (room .exit)) ⌝ }
 {
-    let t = turn(
+    let t = call_words(
         Scheme::Speculation,
         r.count,
         r.largest,
@@ -113,9 +113,9 @@ pub extern "C" fn harukdalis_call_blocking(
     room: &mut [u32],
     answers: &mut u32,
 ) -> u32
-    ensures { λ n. ⌜ answered Blocking (now (r .entry)) (eventOf (now (event .entry))) (now (cells .entry)) (now (room .entry)) (told n (now (answers .exit)) (now (r .exit))) (now (cells .exit)) (now (room .exit)) ⌝ }
+    ensures { λ n. ⌜ Leaves Blocking (now (r .entry)) (eventOf (now (event .entry))) (now (cells .entry)) (now (room .entry)) (calledWith n (now (answers .exit)) (now (r .exit))) (now (cells .exit)) (now (room .exit)) ⌝ }
 {
-    let t = turn(
+    let t = call_words(
         Scheme::Blocking,
         r.count,
         r.largest,

@@ -17,20 +17,23 @@ use Rattle.model.specs.Refusals.{rows, firstOf, refusal, Request, Arrive, Commi
 use Rattle.model.specs.declared.Event.{Event}
 use Rattle.model.specs.declared.Fragment.{Fragment}
 use Rattle.model.specs.declared.Scheme.{Scheme}
-use Rattle.model.proofs.Chain.{All, all-append}
-use Rattle.model.proofs.Passing.{Passed, front-or-new, and-if, decides-front}
+use Rattle.model.proofs.Chain.{all-append}
+use Rattle.model.proofs.Passing.{front-or-new, and-if, decides-front}
 use Rattle.model.proofs.Tests.{both}
-use Rattle.model.proofs.Sound.{Sound, sound-parts, entries-depth, entries-most}
+use Rattle.model.proofs.Sound.{sound-parts, entries-depth, entries-most}
 use Rattle.model.proofs.Keeping.{joined-sound, continued-sound, settled-sound, front-leaves, aborted-sound, alone}
 use Rattle.model.proofs.Kept.{arrives-storable}
 use Rattle.operations.specs.Laid.{padded}
 use Rattle.record.specs.Words.{rowWords, allRows, liveRows}
 use Rattle.record.proofs.Rows.{lay-padded, shift-padded}
-use Rattle.record.proofs.Back.{Eight, Known, known-of, length-row, length-rows, rows-append, number-back, eights-first, eights-rest}
+use Rattle.record.proofs.Back.{known-of, length-row, length-rows, rows-append, number-back, eights-first, eights-rest}
 use Rattle.refusals.specs.Rest.{callOf, frontIs, behindFirst}
-use Rattle.engine.specs.declared.queues.Counts.{Counts}
+use Rattle.engine.specs.declared.counts.Counts.{Counts}
 use Rattle.engine.specs.Work.{waitingMore, Work, Left, Small, Fair, Drained, Committed, Aborted, Continued}
 use Rattle.engine.specs.Ready.{Ready}
+use Rattle.model.specs.Parts.{All, Passed, Sound}
+use Rattle.record.specs.Fitting.{Eight, Known}
+use Rattle.record.specs.Widths.{liveWidth, liveLength}
 
 -- the rows hold lists whose drain, with the answers sent so far, is q
 pub record Begun (σ : Scheme) (live runs undo room : List ℕ) (cells : Cells) (c : Counts) (room₀ : List ℕ) (q : Queues) : Type 0 where
@@ -160,7 +163,7 @@ begun-continued σ live runs undo room runs′ undo′ room′ cells cells′ c 
 
 begun-joined : (σ : Scheme) (live live′ runs undo room : List ℕ) (cells : Cells) (c c′ : Counts) (n : ℕ) (f : Fragment) (ct top : ℕ) (us : List Uncommitted) (ws : List Waiting)
     → Work live runs undo room c [] us ws [] room → Sound ct top us ws → top < n → storable ct f ≡ true → length us + length ws < mostLive → length (f .row) ≡ 8
-    → live′ ≡ sets live (28 * (c .first + c .uncommitted + c .waiting)) (rowWords n f) → c′ ≡ waitingMore c
+    → live′ ≡ sets live (liveWidth * (c .first + c .uncommitted + c .waiting)) (rowWords n f) → c′ ≡ waitingMore c
     → Begun σ live′ runs undo room cells c′ room (joined σ n f cells us ws)
 unfolding allRows
 begun-joined σ live live′ runs undo room cells c c′ n f ct top us ws w s k st few eight el ec =
@@ -168,12 +171,12 @@ begun-joined σ live live′ runs undo room cells c c′ n f ct top us ws w s k 
     let old : List Waiting = liveRows us ws in
     let rows : liveRows us (ws ++ (x ∷ [])) ≡ old ++ (x ∷ []) = sym (append-assoc (map requeued us) ws (x ∷ [])) in
     let lo : length old ≡ c .first + c .uncommitted + c .waiting = length-append (map requeued us) ws ∙ omega (arith, length-map us requeued, w .first, w .uncommitted, w .waiting) in
-    let lw : length (rowWords n f) ≡ 28 = length-row n f eight in
-    let lr : length (allRows old) ≡ 28 * (c .first + c .uncommitted + c .waiting) = length-rows old (w .eights) ∙ ap (λ (y : ℕ). 28 * y) lo in
-    let laid : live′ ≡ padded 1792 (allRows (liveRows us (ws ++ (x ∷ [])))) =
-    el ∙ ap (λ (y : List ℕ). sets y (28 * (c .first + c .uncommitted + c .waiting)) (rowWords n f)) (w .at-live)
-    ∙ lay-padded 1792 (allRows old) (rowWords n f) (28 * (c .first + c .uncommitted + c .waiting)) lr (omega (arith, lw, w .first, w .uncommitted, w .waiting))
-    ∙ ap (padded 1792) (ap (λ (y : List ℕ). allRows old ++ y) (sym (append-nil (rowWords n f))) ∙ sym (rows-append old (x ∷ [])) ∙ ap allRows (sym rows)) in
+    let lw : length (rowWords n f) ≡ liveWidth = length-row n f eight in
+    let lr : length (allRows old) ≡ liveWidth * (c .first + c .uncommitted + c .waiting) = length-rows old (w .eights) ∙ ap (λ (y : ℕ). liveWidth * y) lo in
+    let laid : live′ ≡ padded liveLength (allRows (liveRows us (ws ++ (x ∷ [])))) =
+    el ∙ ap (λ (y : List ℕ). sets y (liveWidth * (c .first + c .uncommitted + c .waiting)) (rowWords n f)) (w .at-live)
+    ∙ lay-padded liveLength (allRows old) (rowWords n f) (liveWidth * (c .first + c .uncommitted + c .waiting)) lr (omega (arith, lw, w .first, w .uncommitted, w .waiting))
+    ∙ ap (padded liveLength) (ap (λ (y : List ℕ). allRows old ++ y) (sym (append-nil (rowWords n f))) ∙ sym (rows-append old (x ∷ [])) ∙ ap allRows (sym rows)) in
     let wk : Work live′ runs undo room c′ [] us (ws ++ (x ∷ [])) [] room = record {
       at-live = laid;
       at-runs = w .at-runs;
@@ -217,7 +220,7 @@ front-back live runs undo room c [] ws n w = ap (λ (x : ℕ). not (eqb x 0) && 
 front-back live runs undo room c (u ∷ us) ws n w =
     ap (λ (x : ℕ). not (eqb x 0) && eqb (getD live 0 0) n) (sym (w .uncommitted))
     ∙ ap (λ (b : Bool). not b && eqb (getD live 0 0) n) (ne-eqb (suc (length us)) 0 (λ z. omega arith))
-    ∙ ap (λ (x : ℕ). eqb x n) (ap (λ (l : List ℕ). getD l 0 0) (w .at-live) ∙ number-back 1792 [] (requeued u) (liveRows us ws) 0 tt (w .eights .0) refl)
+    ∙ ap (λ (x : ℕ). eqb x n) (ap (λ (l : List ℕ). getD l 0 0) (w .at-live) ∙ number-back liveLength [] (requeued u) (liveRows us ws) 0 tt (w .eights .0) refl)
 
 module _ (σ : Scheme) (live₀ runs undo room : List ℕ) (cells : Cells) (c : Counts) (v : Event) (e : Engine) (rd : Ready σ live₀ runs undo room cells c v e) where
   pub abort-begun : eqb (v .kind) 1 ≡ false → eqb (v .kind) 2 ≡ false → (runs′ undo′ : List ℕ) (cells′ : Cells) (c′ : Counts) → Aborted runs undo cells c runs′ undo′ cells′ c′ → c′ .first + c′ .uncommitted + c′ .waiting ≤ 64
@@ -253,7 +256,7 @@ module _ (σ : Scheme) (live₀ runs undo room : List ℕ) (cells : Cells) (c : 
           (leb-false mostFragments (u .ran) (and-if (eqb (u .number) (v .number)) (leb mostFragments (u .ran)) h (and-if (eqb (v .kind) 1) _ a p11)))
           (arrives-storable e (callOf σ v cells room) a (rd .passed)) (rd .words) cn k)
 
-  pub join-begun : eqb (v .kind) 1 ≡ true → frontIs (c .uncommitted) live₀ (v .number) ≡ false → (live′ : List ℕ) (c′ : Counts) → live′ ≡ sets live₀ (28 * (c .first + c .uncommitted + c .waiting)) (rowWords (v .number) (v .fragment)) → c′ ≡ waitingMore c
+  pub join-begun : eqb (v .kind) 1 ≡ true → frontIs (c .uncommitted) live₀ (v .number) ≡ false → (live′ : List ℕ) (c′ : Counts) → live′ ≡ sets live₀ (liveWidth * (c .first + c .uncommitted + c .waiting)) (rowWords (v .number) (v .fragment)) → c′ ≡ waitingMore c
       → Begun σ live′ runs undo room cells c′ room (taken σ (request v) e cells)
   join-begun a fr live′ c′ el ec =
       subst (λ (q : Request). Begun σ live′ runs undo room cells c′ room (taken σ q e cells)) (sym (request-arrive v a))

@@ -17,23 +17,25 @@ use Rattle.model.specs.Refusals as Refusals
 use Rattle.model.specs.declared.Event.{Event}
 use Rattle.model.specs.declared.Scheme.{Scheme}
 use Rattle.model.proofs.Branches.{request-cases}
-use Rattle.model.proofs.Chain.{All}
-use Rattle.model.proofs.Passing.{Passed, passed}
+use Rattle.model.proofs.Passing.{passed}
 use Rattle.refusals.specs.Rest.{callOf}
 use Rattle.record.specs.declared.Record.{Record}
 use Rattle.record.specs.Words.{pack, allRows, allRuns, liveRows}
 use Rattle.record.specs.View.{numbersFrom, zeros, uncommittedOf, waitingOf, viewOf, view}
 use Rattle.record.proofs.Rows.{shift-padded}
-use Rattle.record.proofs.Back.{Eight, length-rows, rows-append, eights-first}
+use Rattle.record.proofs.Back.{length-rows, rows-append, eights-first}
 use Rattle.operations.specs.Laid.{padded}
 use Rattle.tidy.specs.Tidied.{Canonical}
 use Rattle.engine.specs.Work.{Work, Left}
-use Rattle.engine.specs.declared.queues.Counts.{Counts}
+use Rattle.engine.specs.declared.counts.Counts.{Counts}
 use Rattle.engine.specs.Called.{stepped, nextOf, called, cellsAfter, roomAfter, freshOf}
 use Rattle.engine.specs.Ready.{Ready, largestBy}
 use Rattle.engine.specs.declared.Called.{Called}
 use Rattle.engine.specs.declared.Fresh.{Fresh}
 use Rattle.engine.proofs.Viewed.{First, view-count, view-waits, view-first, view-waiting}
+use Rattle.model.specs.Parts.{All, Passed}
+use Rattle.record.specs.Fitting.{Eight}
+use Rattle.record.specs.Widths.{liveWidth, liveLength, runsLength, undoLength}
 
 -- the three equations of the contract
 abbrev pub Meets : Scheme → Record → Event → Cells → List ℕ → Called → Cells → List ℕ → Type 0
@@ -65,7 +67,7 @@ rows-of (u ∷ us) ws k e = (k .0, rows-of us ws (k .1) e)
 
 -- what the checks and the tidying leave is ready for the steps
 pub ready : (σ : Scheme) (r : Record) (v : Event) (cells room : List ℕ) (n : ℕ) (live runs undo : List ℕ) → refusal (view r) (callOf σ v cells room) ≡ 0
-    → Canonical (uncommittedOf (r .live) 0 (r .runs) 0 (r .undo) 0 (r .uncommitted)) (waitingOf (r .live) (28 * r .uncommitted) (r .waiting)) n live runs undo
+    → Canonical (uncommittedOf (r .live) 0 (r .runs) 0 (r .undo) 0 (r .uncommitted)) (waitingOf (r .live) (liveWidth * r .uncommitted) (r .waiting)) n live runs undo
     → length (v .fragment .row) ≡ 8
     → Ready σ live runs undo room cells (record { first = 0; uncommitted = r .uncommitted; waiting = r .waiting; entries = n; answers = 0 }) v (view r)
 unfolding viewOf
@@ -101,17 +103,17 @@ largest-by v e = request-cases (λ (q : Request). largestBy (v .kind) (v .number
     either false = refl
 
 -- the row of live ones moved to its start: those that have gone leave no trace
-closed : (live live′ : List ℕ) (gone ws : List Waiting) (k m : ℕ) → live ≡ padded 1792 (allRows (gone ++ ws)) → All Eight gone → All Eight (gone ++ ws) → length gone ≡ k → length (gone ++ ws) ≡ m → m ≤ 64
-    → live′ ≡ sets live 0 (numbersFrom live (28 * k) (28 * m)) → live′ ≡ padded 1792 (allRows ws)
+closed : (live live′ : List ℕ) (gone ws : List Waiting) (k m : ℕ) → live ≡ padded liveLength (allRows (gone ++ ws)) → All Eight gone → All Eight (gone ++ ws) → length gone ≡ k → length (gone ++ ws) ≡ m → m ≤ 64
+    → live′ ≡ sets live 0 (numbersFrom live (liveWidth * k) (liveWidth * m)) → live′ ≡ padded liveLength (allRows ws)
 closed live live′ gone ws k m el eg ea ek em h e =
-    let at : live ≡ padded 1792 (allRows gone ++ allRows ws) = el ∙ ap (padded 1792) (rows-append gone ws) in
-    let lg : length (allRows gone) ≡ 28 * k = length-rows gone eg ∙ ap (λ (x : ℕ). 28 * x) ek in
-    let la : length (allRows gone ++ allRows ws) ≡ 28 * m = ap length (sym (rows-append gone ws)) ∙ length-rows (gone ++ ws) ea ∙ ap (λ (x : ℕ). 28 * x) em in
-    e ∙ ap (λ (x : List ℕ). sets x 0 (numbersFrom x (28 * k) (28 * m))) at ∙ shift-padded 1792 (allRows gone) (allRows ws) (28 * k) (28 * m) lg la (omega arith)
+    let at : live ≡ padded liveLength (allRows gone ++ allRows ws) = el ∙ ap (padded liveLength) (rows-append gone ws) in
+    let lg : length (allRows gone) ≡ liveWidth * k = length-rows gone eg ∙ ap (λ (x : ℕ). liveWidth * x) ek in
+    let la : length (allRows gone ++ allRows ws) ≡ liveWidth * m = ap length (sym (rows-append gone ws)) ∙ length-rows (gone ++ ws) ea ∙ ap (λ (x : ℕ). liveWidth * x) em in
+    e ∙ ap (λ (x : List ℕ). sets x 0 (numbersFrom x (liveWidth * k) (liveWidth * m))) at ∙ shift-padded liveLength (allRows gone) (allRows ws) (liveWidth * k) (liveWidth * m) lg la (omega arith)
 
 pub accepted-call : (σ : Scheme) (r : Record) (v : Event) (cells room : List ℕ) (live live′ runs undo room′ : List ℕ) (cells′ : Cells) (c : Counts) (top : ℕ) → refusal (view r) (callOf σ v cells room) ≡ 0
     → Left live runs undo room′ c cells′ [] room (taken σ (request v) (view r) cells) → c .first + c .uncommitted + c .waiting ≤ 64
-    → live′ ≡ sets live 0 (numbersFrom live (28 * c .first) (28 * (c .first + c .uncommitted + c .waiting))) → top ≡ largestBy (v .kind) (v .number) (r .largest)
+    → live′ ≡ sets live 0 (numbersFrom live (liveWidth * c .first) (liveWidth * (c .first + c .uncommitted + c .waiting))) → top ≡ largestBy (v .kind) (v .number) (r .largest)
     → Meets σ r v cells room (record { number = 0; answers = c .answers; next = record { count = r .count; largest = top; uncommitted = c .uncommitted; waiting = c .waiting; live = live′; runs = runs; undo = undo } }) cells′ room′
 unfolding pack viewOf
 accepted-call σ r v cells room live live′ runs undo room′ cells′ c top z l h el et =
@@ -138,12 +140,12 @@ accepted-call σ r v cells room live live′ runs undo room′ cells′ c top z 
     long : length (l .gone ++ liveRows (q .uncommitted) (q .waiting)) ≡ c .first + c .uncommitted + c .waiting
     long = omega (arith, length-append (l .gone) (liveRows (q .uncommitted) (q .waiting)), length-append (map requeued (q .uncommitted)) (q .waiting), length-map (q .uncommitted) requeued, l .work .first, l .work .uncommitted, l .work .waiting)
 
-    rows : live′ ≡ padded 1792 (allRows (liveRows (q .uncommitted) (q .waiting)))
+    rows : live′ ≡ padded liveLength (allRows (liveRows (q .uncommitted) (q .waiting)))
     rows = closed live live′ (l .gone) (liveRows (q .uncommitted) (q .waiting)) (c .first) (c .first + c .uncommitted + c .waiting) (l .work .at-live) (eights-first (l .gone) _ (l .work .eights)) (l .work .eights) (l .work .first) long h el
 
 -- Starting
 
-pub empty-packed : (n : ℕ) → _≡_ {A = Record} (record { count = n; largest = 0; uncommitted = 0; waiting = 0; live = zeros 1792; runs = zeros 256; undo = zeros 368 }) (pack (Refusals.empty n))
+pub empty-packed : (n : ℕ) → _≡_ {A = Record} (record { count = n; largest = 0; uncommitted = 0; waiting = 0; live = zeros liveLength; runs = zeros runsLength; undo = zeros undoLength }) (pack (Refusals.empty n))
 unfolding pack padded allRows allRuns
 empty-packed n = refl
 

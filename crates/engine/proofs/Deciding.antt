@@ -14,18 +14,22 @@ use Rattle.model.specs.Steps.{run, requeued, settled, undone, again, stateAfter
 use Rattle.model.specs.Steps as Steps
 use Rattle.model.specs.declared.Fragment.{Fragment}
 use Rattle.model.specs.declared.Undo.{Undo}
-use Rattle.model.proofs.Chain.{All, all-map}
+use Rattle.model.proofs.Chain.{all-map}
 use Rattle.model.proofs.Running.{joinedBy, run-earlier, outcome-earlier, run-few, run-numbers}
 use Rattle.operations.specs.Laid.{padded, flat, entriesOf, laid}
 use Rattle.operations.specs.declared.Ran.{Ran}
 use Rattle.record.specs.Words.{allRows, allRuns, runWords, stateWord, liveRows}
 use Rattle.record.specs.View.{numbersFrom}
 use Rattle.record.proofs.Rows.{shift-padded, lay-padded, numbers-padded}
-use Rattle.record.proofs.Back.{Eight, Fit, Known, eights-first, eights-rest, number-back, length-runs, length-flat, flat-append, entries-back}
-use Rattle.engine.specs.declared.queues.Counts.{Counts}
-use Rattle.engine.specs.Work.{Work, Fair, Dropped, Settled, Committed, Aborted, Continued, runRow, stateWordAfter, answered}
+use Rattle.record.proofs.Back.{eights-first, eights-rest, number-back, length-runs, length-flat, flat-append, entries-back}
+use Rattle.engine.specs.declared.counts.Counts.{Counts}
+use Rattle.engine.specs.Work.{Work, Fair, Dropped, Settled, Committed, Aborted, Continued, withAnswer}
+use Rattle.rows.specs.Rows.{runRow, stateWordAfter}
 use Rattle.engine.proofs.Rooms.{answered-room, state-word}
 use Rattle.engine.proofs.Settling.{first-word, front-runs}
+use Rattle.model.specs.Parts.{All}
+use Rattle.record.specs.Fitting.{Eight, Fit, Known}
+use Rattle.record.specs.Widths.{liveWidth, runWidth, liveLength, runsLength, undoLength}
 
 pub committed-both : (live runs undo room runs₁ undo₁ runs₂ undo₂ room₂ : List ℕ) (c c₁ c₂ : Counts) → Dropped runs undo c runs₁ undo₁ c₁ → Settled live runs₁ undo₁ room c₁ runs₂ undo₂ room₂ c₂ → Committed live runs undo room c runs₂ undo₂ room₂ c₂
 committed-both live runs undo room runs₁ undo₁ runs₂ undo₂ room₂ c c₁ c₂ one two gone u us ws sent room₀ w k =
@@ -37,23 +41,23 @@ emptied n l m e h =
     ap (λ (x : List ℕ). sets (padded n x) 0 (numbersFrom (padded n x) m m)) (sym (append-nil l)) ∙ shift-padded n l [] m m e (ap length (append-nil l) ∙ e) h
 
 -- the entries of a row that holds them all
-all-entries : (undo : List ℕ) (us : List Undo) (n : ℕ) → undo ≡ padded 368 (flat us) → length us ≡ n → entriesOf undo 0 n ≡ us
+all-entries : (undo : List ℕ) (us : List Undo) (n : ℕ) → undo ≡ padded undoLength (flat us) → length us ≡ n → entriesOf undo 0 n ≡ us
 all-entries undo us n e en =
-    (λ i. entriesOf (e i) 0 (sym en i)) ∙ ap (λ (x : List Undo). entriesOf (padded 368 (flat x)) 0 (length us)) (sym (append-nil us)) ∙ entries-back 368 [] us [] 0 refl
+    (λ i. entriesOf (e i) 0 (sym en i)) ∙ ap (λ (x : List Undo). entriesOf (padded undoLength (flat x)) 0 (length us)) (sym (append-nil us)) ∙ entries-back undoLength [] us [] 0 refl
 
 pub aborted : (runs undo runs′ undo′ : List ℕ) (cells cells′ : Cells) (c c′ : Counts) → Fair c → cells′ ≡ undone (entriesOf undo 0 (c .entries)) cells
-    → runs′ ≡ sets runs 0 (numbersFrom runs (16 * c .uncommitted) (16 * c .uncommitted)) → undo′ ≡ sets undo 0 (numbersFrom undo (2 * c .entries) (2 * c .entries))
+    → runs′ ≡ sets runs 0 (numbersFrom runs (runWidth * c .uncommitted) (runWidth * c .uncommitted)) → undo′ ≡ sets undo 0 (numbersFrom undo (2 * c .entries) (2 * c .entries))
     → c′ ≡ record { first = c .first + 1; uncommitted = 0; waiting = c .uncommitted - 1 + c .waiting; entries = 0; answers = c .answers } → Aborted runs undo cells c runs′ undo′ cells′ c′
 unfolding allRuns
 aborted runs undo runs′ undo′ cells cells′ c c′ fair es er eu ec live room gone u us ws sent room₀ w k =
     let fits : All Fit (u ∷ us) = all-map Known Fit (λ v h. h .0) (u ∷ us) k in
     let rows : gone ++ liveRows (u ∷ us) ws ≡ (gone ++ (requeued u ∷ [])) ++ (map requeued us ++ ws) = sym (append-assoc gone (requeued u ∷ []) (map requeued us ++ ws)) in (
       record {
-        at-live = w .at-live ∙ ap (λ (x : List Waiting). padded 1792 (allRows x)) rows;
-        at-runs = er ∙ ap (λ (x : List ℕ). sets x 0 (numbersFrom x (16 * c .uncommitted) (16 * c .uncommitted))) (w .at-runs)
-            ∙ emptied 256 (allRuns (u ∷ us)) (16 * c .uncommitted) (length-runs (u ∷ us) fits ∙ ap (λ (x : ℕ). 16 * x) (w .uncommitted)) (omega (arith, fair .depth));
+        at-live = w .at-live ∙ ap (λ (x : List Waiting). padded liveLength (allRows x)) rows;
+        at-runs = er ∙ ap (λ (x : List ℕ). sets x 0 (numbersFrom x (runWidth * c .uncommitted) (runWidth * c .uncommitted))) (w .at-runs)
+            ∙ emptied runsLength (allRuns (u ∷ us)) (runWidth * c .uncommitted) (length-runs (u ∷ us) fits ∙ ap (λ (x : ℕ). runWidth * x) (w .uncommitted)) (omega (arith, fair .depth));
         at-undo = eu ∙ ap (λ (x : List ℕ). sets x 0 (numbersFrom x (2 * c .entries) (2 * c .entries))) (w .at-undo)
-            ∙ emptied 368 (flat (undoList (u ∷ us))) (2 * c .entries) (length-flat (undoList (u ∷ us)) ∙ ap (λ (x : ℕ). 2 * x) (w .entries)) (omega (arith, fair .entries));
+            ∙ emptied undoLength (flat (undoList (u ∷ us))) (2 * c .entries) (length-flat (undoList (u ∷ us)) ∙ ap (λ (x : ℕ). 2 * x) (w .entries)) (omega (arith, fair .entries));
         at-room = w .at-room;
         first = length-append gone (requeued u ∷ []) ∙ ap (λ (x : ℕ). x + 1) (w .first) ∙ sym (ap (λ (x : Counts). x .first) ec);
         uncommitted = sym (ap (λ (x : Counts). x .uncommitted) ec);
@@ -85,10 +89,10 @@ unfolding runWords
 first-is u = refl
 
 module _ (live runs undo room runs′ undo′ room′ : List ℕ) (cells cells′ : Cells) (c c′ : Counts) (f : Fragment) (number ran before state entries : ℕ) (la : Bool) (r : Ran) (w : List ℕ)
-    (fair : Fair c) (some : 0 < c .uncommitted) (en : number ≡ getD live (28 * c .first) 0) (er : r ≡ laid (run f cells [])) (ec : cells′ ≡ run f cells (entriesOf undo 0 (c .entries)) .cells)
+    (fair : Fair c) (some : 0 < c .uncommitted) (en : number ≡ getD live (liveWidth * c .first) 0) (er : r ≡ laid (run f cells [])) (ec : cells′ ≡ run f cells (entriesOf undo 0 (c .entries)) .cells)
     (eran : ran ≡ getD runs 0 0) (ebefore : before ≡ min ran 7) (ela : la ≡ last f) (est : state ≡ stateWordAfter la (r .place)) (een : entries ≡ pick (eqb (r .place) 0) (c .entries + r .entries) 0)
     (eu : undo′ ≡ pick (eqb (r .place) 0) (sets undo (2 * c .entries) (numbersFrom (r .undo) 0 (2 * r .entries))) (sets undo 0 (numbersFrom undo (2 * c .entries) (2 * c .entries))))
-    (ew : w ≡ runRow (before + 1) state 0 entries 0 0 (replicate 8 0)) (eruns : runs′ ≡ sets runs 0 w) (eroom : room′ ≡ answered (c .answers) number 0 r room)
+    (ew : w ≡ runRow (before + 1) state 0 entries 0 0 (replicate 8 0)) (eruns : runs′ ≡ sets runs 0 w) (eroom : room′ ≡ withAnswer (c .answers) number 0 r room)
     (ecounts : c′ ≡ record { first = c .first; uncommitted = c .uncommitted; waiting = c .waiting; entries = entries; answers = c .answers + 1 }) where
   pub continued : Continued live runs undo room cells c f runs′ undo′ room′ cells′ c′
   unfolding laid
@@ -144,22 +148,22 @@ module _ (live runs undo room runs′ undo′ room′ : List ℕ) (cells cells�
           go true e = (λ i. (sym (k .entries) ∙ whole) i + er i .entries) ∙ sym (length-append (u .undo) (run f cells [] .undo)) ∙ sym (ap length (undo-by true e))
           go false e = sym (ap length (undo-by false e))
 
-      undo-is : undo′ ≡ padded 368 (flat (run f cells (u .undo) .undo ++ []))
+      undo-is : undo′ ≡ padded undoLength (flat (run f cells (u .undo) .undo ++ []))
       undo-is = eu ∙ ap (λ (x : ℕ). pick (eqb x 0) (sets undo (2 * c .entries) (numbersFrom (r .undo) 0 (2 * r .entries))) (sets undo 0 (numbersFrom undo (2 * c .entries) (2 * c .entries)))) place-is
-          ∙ go (eqb (run f cells [] .outcome .place) 0) refl ∙ ap (λ (x : List Undo). padded 368 (flat x)) (sym (append-nil (run f cells (u .undo) .undo)))
+          ∙ go (eqb (run f cells [] .outcome .place) 0) refl ∙ ap (λ (x : List Undo). padded undoLength (flat x)) (sym (append-nil (run f cells (u .undo) .undo)))
         where
           size : length (flat (u .undo ++ [])) ≡ 2 * c .entries
           size = length-flat (u .undo ++ []) ∙ ap (λ (x : ℕ). 2 * x) (k .entries)
 
           go : (b : Bool) → eqb (run f cells [] .outcome .place) 0 ≡ b
-              → pick b (sets undo (2 * c .entries) (numbersFrom (r .undo) 0 (2 * r .entries))) (sets undo 0 (numbersFrom undo (2 * c .entries) (2 * c .entries))) ≡ padded 368 (flat (run f cells (u .undo) .undo))
+              → pick b (sets undo (2 * c .entries) (numbersFrom (r .undo) 0 (2 * r .entries))) (sets undo 0 (numbersFrom undo (2 * c .entries) (2 * c .entries))) ≡ padded undoLength (flat (run f cells (u .undo) .undo))
           go true e =
               (λ i. sets (k .at-undo i) (2 * c .entries) (own-words i))
-              ∙ lay-padded 368 (flat (u .undo ++ [])) (flat (run f cells [] .undo)) (2 * c .entries) size (omega (arith, length-flat (run f cells [] .undo), own-few, whole, k .entries, few, few-ran))
-              ∙ ap (padded 368) (ap (λ (x : List Undo). flat x ++ flat (run f cells [] .undo)) (append-nil (u .undo)) ∙ sym (flat-append (u .undo) (run f cells [] .undo)) ∙ ap flat (sym (undo-by true e)))
+              ∙ lay-padded undoLength (flat (u .undo ++ [])) (flat (run f cells [] .undo)) (2 * c .entries) size (omega (arith, length-flat (run f cells [] .undo), own-few, whole, k .entries, few, few-ran))
+              ∙ ap (padded undoLength) (ap (λ (x : List Undo). flat x ++ flat (run f cells [] .undo)) (append-nil (u .undo)) ∙ sym (flat-append (u .undo) (run f cells [] .undo)) ∙ ap flat (sym (undo-by true e)))
           go false e =
-              ap (λ (x : List ℕ). sets x 0 (numbersFrom x (2 * c .entries) (2 * c .entries))) (k .at-undo) ∙ emptied 368 (flat (u .undo ++ [])) (2 * c .entries) size (omega (arith, fair .entries))
-              ∙ ap (λ (x : List Undo). padded 368 (flat x)) (sym (undo-by false e))
+              ap (λ (x : List ℕ). sets x 0 (numbersFrom x (2 * c .entries) (2 * c .entries))) (k .at-undo) ∙ emptied undoLength (flat (u .undo ++ [])) (2 * c .entries) size (omega (arith, fair .entries))
+              ∙ ap (λ (x : List Undo). padded undoLength (flat x)) (sym (undo-by false e))
 
       run-is : w ≡ runWords v
       run-is = ew ∙ again-words u f (run f cells (u .undo)) (before + 1) state entries ran-is state-is entries-is
@@ -174,11 +178,11 @@ module _ (live runs undo room runs′ undo′ room′ : List ℕ) (cells cells�
 
       number-is : number ≡ u .number
       number-is =
-          en ∙ ap (λ (l : List ℕ). getD l (28 * c .first) 0) (k .at-live)
-          ∙ number-back 1792 gone (requeued u) (liveRows [] ws) (28 * c .first) (eights-first gone (liveRows (u ∷ []) ws) (k .eights)) (eights-rest gone (liveRows (u ∷ []) ws) (k .eights) .0) (ap (λ (x : ℕ). 28 * x) (k .first))
+          en ∙ ap (λ (l : List ℕ). getD l (liveWidth * c .first) 0) (k .at-live)
+          ∙ number-back liveLength gone (requeued u) (liveRows [] ws) (liveWidth * c .first) (eights-first gone (liveRows (u ∷ []) ws) (k .eights)) (eights-rest gone (liveRows (u ∷ []) ws) (k .eights) .0) (ap (λ (x : ℕ). liveWidth * x) (k .first))
 
       room-is : room′ ≡ filled (sent ++ (answer (u .number) 0 (run f cells (u .undo) .outcome) ∷ [])) room₀
-      room-is = eroom ∙ ap (λ (n : ℕ). answered (c .answers) n 0 r room) number-is
+      room-is = eroom ∙ ap (λ (n : ℕ). withAnswer (c .answers) n 0 r room) number-is
           ∙ answered-room sent (u .number) 0 (run f cells []) r room room₀ (c .answers) er (omega (arith, run-numbers f cells, few-operations f eight)) (k .at-room) (k .answers) (omega (arith, k .enough, fair .answers, some))
           ∙ ap (λ (o : Outcome). filled (sent ++ (answer (u .number) 0 o ∷ [])) room₀) (sym tells)
 

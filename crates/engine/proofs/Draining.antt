@@ -17,17 +17,20 @@ use Rattle.model.specs.declared.Fragment.{Fragment}
 use Rattle.model.specs.declared.Scheme.{Scheme}
 use Rattle.model.specs.declared.Scheme.the-variants.{Speculation, Blocking}
 use Rattle.model.proofs.Branches.{drain-cases}
-use Rattle.model.proofs.Chain.{All, all-map}
-use Rattle.model.proofs.Sound.{Sound}
+use Rattle.model.proofs.Chain.{all-map}
 use Rattle.model.proofs.Running.{run-few}
 use Rattle.model.proofs.Keeping.{placed-sound}
 use Rattle.operations.specs.Laid.{padded, laid}
 use Rattle.operations.specs.declared.Ran.{Ran}
 use Rattle.record.specs.Words.{allRuns, runWords, stateWord}
 use Rattle.record.specs.View.{fragmentAt}
-use Rattle.record.proofs.Back.{Fit, Known, known-of, run-read}
-use Rattle.engine.specs.declared.queues.Counts.{Counts}
-use Rattle.engine.specs.Work.{Small, Work, Left, Turned, Drained, blocking, mayTakeRow, joinedCounts, settledCounts, withAnswers}
+use Rattle.record.proofs.Back.{known-of, run-read}
+use Rattle.engine.specs.declared.counts.Counts.{Counts}
+use Rattle.engine.specs.Work.{Small, Work, Left, Took, Drained, joinedCounts, settledCounts, withAnswers}
+use Rattle.rows.specs.Rows.{blocking, mayTakeRow}
+use Rattle.model.specs.Parts.{All, Sound}
+use Rattle.record.specs.Fitting.{Fit, Known}
+use Rattle.record.specs.Widths.{runWidth, runsLength}
 
 -- Counts
 
@@ -38,9 +41,9 @@ entries-few l b f cells r ef er =
     let e : r .entries ≡ length (run (fragmentAt l b) cells [] .undo) = ap (λ (x : Ran). x .entries) (er ∙ ap (λ (x : Fragment). laid (run x cells [])) ef) in
     omega (arith, run-few (fragmentAt l b) cells, length-take (g .count) (g .row))
 
-pub small-turn : (c c′ : Counts) (r : Ran) (a′ : ℕ) (ans joins : Bool) → Small c → 0 < c .waiting → c .uncommitted < 16 → r .entries ≤ 8 → a′ ≡ pick ans (c .answers + 1) (c .answers)
+pub small-taking : (c c′ : Counts) (r : Ran) (a′ : ℕ) (ans joins : Bool) → Small c → 0 < c .waiting → c .uncommitted < 16 → r .entries ≤ 8 → a′ ≡ pick ans (c .answers + 1) (c .answers)
     → c′ ≡ pick joins (joinedCounts (withAnswers a′ c) r) (settledCounts (withAnswers a′ c)) → Small c′ × (c′ .waiting + 1 ≡ c .waiting)
-small-turn c c′ r a′ ans joins s w u e ea ec = go joins ec (less ans ea)
+small-taking c c′ r a′ ans joins s w u e ea ec = go joins ec (less ans ea)
   where
     less : (b : Bool) → a′ ≡ pick b (c .answers + 1) (c .answers) → a′ ≤ c .answers + 1
     less true h = omega arith
@@ -92,7 +95,7 @@ run-state : (v : Uncommitted) → getD (runWords v) 1 0 ≡ stateWord (v .state)
 unfolding runWords
 run-state v = refl
 
-pub may-take-back : (σ : Scheme) (us : List Uncommitted) (runs : List ℕ) (n : ℕ) → All Known us → runs ≡ padded 256 (allRuns us) → length us ≡ n → mayTakeRow σ runs n ≡ mayTake σ us
+pub may-take-back : (σ : Scheme) (us : List Uncommitted) (runs : List ℕ) (n : ℕ) → All Known us → runs ≡ padded runsLength (allRuns us) → length us ≡ n → mayTakeRow σ runs n ≡ mayTake σ us
 may-take-back Blocking [] runs n k e en = ap (mayTakeRow Blocking runs) (sym en)
 may-take-back Speculation [] runs n k e en = ap (mayTakeRow Speculation runs) (sym en)
 may-take-back Blocking (u ∷ us) runs n k e en = ap (λ (x : ℕ). eqb x 0) (sym en) ∙ ne-eqb (suc (length us)) 0 (λ z. omega arith)
@@ -102,10 +105,10 @@ may-take-back Speculation (u ∷ us) runs n k e en = ap (mayTakeRow Speculation 
     m = suc (length us)
 
     word : ℕ
-    word = getD runs (16 * (suc (length us) - 1) + 1) 0
+    word = getD runs (runWidth * (suc (length us) - 1) + 1) 0
 
     rest : Bool → Bool
-    rest b = pick b false (pick (eqb (getD runs (16 * (suc (length us) - 1) + 1) 0) 1) true (eqb (getD runs (16 * (suc (length us) - 1) + 1) 0) 2))
+    rest b = pick b false (pick (eqb (getD runs (runWidth * (suc (length us) - 1) + 1) 0) 1) true (eqb (getD runs (runWidth * (suc (length us) - 1) + 1) 0) 2))
 
     some : mayTakeRow Speculation runs (suc (length us)) ≡ rest (leb 16 (suc (length us)))
     some = ap (λ (b : Bool). pick b true (rest (leb 16 (suc (length us))))) (ne-eqb (suc (length us)) 0 (λ z. omega arith))
@@ -116,13 +119,13 @@ may-take-back Speculation (u ∷ us) runs n k e en = ap (mayTakeRow Speculation 
     fit : All Fit (x .ahead ++ (x .tail ∷ []))
     fit = subst (All Fit) (x .split) (all-map Known Fit (λ v h. h .0) (u ∷ us) k)
 
-    far : 16 * length (x .ahead) ≡ 16 * (suc (length us) - 1)
-    far = ap (λ (y : ℕ). 16 * y) (omega (arith, ap length (x .split), length-append (x .ahead) (x .tail ∷ [])))
+    far : runWidth * length (x .ahead) ≡ runWidth * (suc (length us) - 1)
+    far = ap (λ (y : ℕ). runWidth * y) (omega (arith, ap length (x .split), length-append (x .ahead) (x .tail ∷ [])))
 
-    word-is : getD runs (16 * (suc (length us) - 1) + 1) 0 ≡ stateWord (x .tail .state)
+    word-is : getD runs (runWidth * (suc (length us) - 1) + 1) 0 ≡ stateWord (x .tail .state)
     word-is =
-        ap (λ (l : List ℕ). getD l (16 * (suc (length us) - 1) + 1) 0) (e ∙ ap (λ (l : List Uncommitted). padded 256 (allRuns l)) (x .split))
-        ∙ run-read 256 (x .ahead) (x .tail) [] (16 * (suc (length us) - 1)) 1 (all-first (x .ahead) (x .tail ∷ []) fit) (all-rest (x .ahead) (x .tail ∷ []) fit .0) far (omega arith)
+        ap (λ (l : List ℕ). getD l (runWidth * (suc (length us) - 1) + 1) 0) (e ∙ ap (λ (l : List Uncommitted). padded runsLength (allRuns l)) (x .split))
+        ∙ run-read runsLength (x .ahead) (x .tail) [] (runWidth * (suc (length us) - 1)) 1 (all-first (x .ahead) (x .tail ∷ []) fit) (all-rest (x .ahead) (x .tail ∷ []) fit .0) far (omega arith)
         ∙ run-state (x .tail)
 
     deep : (b : Bool) → leb 16 (suc (length us)) ≡ b → rest b ≡ mayTake Speculation (u ∷ us)
@@ -169,9 +172,9 @@ sending-more : (a b : List Answer) (q : Queues) → sending (a ++ b) q ≡ sendi
 sending-more a b q = λ i. record { cells = q .cells; uncommitted = q .uncommitted; waiting = q .waiting; answers = append-assoc a b (q .answers) i }
 
 module _ (σ : Scheme) (live runs₀ undo₀ room₀ : List ℕ) (cells₀ : Cells) (c₀ : Counts) (runs undo room : List ℕ) (cells : Cells) (c : Counts) (mid : Midst σ live runs₀ undo₀ room₀ cells₀ c₀ runs undo room cells c) where
-  pub midst-turn : 0 < c .waiting → mayTakeRow σ runs (c .uncommitted) ≡ true → (runs′ undo′ room′ : List ℕ) (cells′ : Cells) (c′ : Counts) → Turned live runs undo room cells c runs′ undo′ room′ cells′ c′
+  pub midst-turn : 0 < c .waiting → mayTakeRow σ runs (c .uncommitted) ≡ true → (runs′ undo′ room′ : List ℕ) (cells′ : Cells) (c′ : Counts) → Took live runs undo room cells c runs′ undo′ room′ cells′ c′
       → Midst σ live runs₀ undo₀ room₀ cells₀ c₀ runs′ undo′ room′ cells′ c′
-  midst-turn h take runs′ undo′ room′ cells′ c′ turned gone us ws sent r₀ w ct top s =
+  midst-turn h take runs′ undo′ room′ cells′ c′ took gone us ws sent r₀ w ct top s =
       let m = mid gone us ws sent r₀ w ct top s in
       go (m .ws) m refl
     where
@@ -181,7 +184,7 @@ module _ (σ : Scheme) (live runs₀ undo₀ room₀ : List ℕ) (cells₀ : Cel
           let wk : Work live runs undo room c (m .gone) (m .us) (x ∷ l) (m .more) r₀ = subst (λ (y : List Waiting). Work live runs undo room c (m .gone) (m .us) y (m .more) r₀) e (m .work) in
           let sd : Sound ct top (m .us) (x ∷ l) = subst (λ (y : List Waiting). Sound ct top (m .us) y) e (m .sound) in
           let tk : mayTake σ (m .us) ≡ true = sym (may-take-back σ (m .us) runs (c .uncommitted) (known-of ct (m .us) (m .sound .each)) (m .work .at-runs) (m .work .uncommitted)) ∙ take in
-          let t = turned (m .gone) (m .us) x l (m .more) r₀ wk ct top sd σ tk in
+          let t = took (m .gone) (m .us) x l (m .more) r₀ wk ct top sd σ tk in
           record {
             gone = t .gone;
             us = placed (m .us) x (run (x .fragment) cells []) .uncommitted;

@@ -1,10 +1,5 @@
 pub mod Unique
-pub mod Fine
 pub mod Viewed
-pub mod Carrying
-pub mod Agreeing
-pub mod Starting
-pub mod Reading
 pub mod Rooms
 pub mod Placing
 pub mod Draining

@@ -17,19 +17,22 @@ use Rattle.model.specs.declared.Fragment.{Fragment}
 use Rattle.model.specs.declared.Scheme.{Scheme}
 use Rattle.model.proofs.Taking.{may-less}
 use Rattle.model.specs.declared.Undo.{Undo}
-use Rattle.model.proofs.Chain.{All, all-append, all-map}
+use Rattle.model.proofs.Chain.{all-append, all-map}
 use Rattle.model.proofs.Tests.{and-left}
-use Rattle.model.proofs.Sound.{Sound, SoundOne}
 use Rattle.model.proofs.Keeping as Keeping
 use Rattle.operations.specs.Laid.{padded, flat, laid}
 use Rattle.operations.specs.declared.Ran.{Ran}
 use Rattle.record.specs.Words.{rowWords, allRows, runWords, allRuns, liveRows, heldOutcome}
 use Rattle.record.specs.View.{fragmentAt, numbersFrom}
 use Rattle.record.proofs.Rows.{lay-padded, numbers-padded}
-use Rattle.record.proofs.Back.{Eight, Fit, Known, known-of, eights-first, eights-rest, length-rows, row-read, fragment-back, number-back, length-run, length-runs, runs-append, undo-append, flat-append, length-flat}
-use Rattle.engine.specs.declared.queues.Counts.{Counts}
-use Rattle.engine.specs.Work.{Work, Left, sameRow, nearRow, oneRows, nearRows, answeredNow, joinsQueue, answered, joinedCounts, settledCounts, withAnswers, begunRow, Small}
+use Rattle.record.proofs.Back.{known-of, eights-first, eights-rest, length-rows, row-read, fragment-back, number-back, length-run, length-runs, runs-append, undo-append, flat-append, length-flat}
+use Rattle.engine.specs.declared.counts.Counts.{Counts}
+use Rattle.engine.specs.Work.{Work, Left, withAnswer, joinedCounts, settledCounts, withAnswers, Small}
+use Rattle.rows.specs.Rows.{sameRow, nearRow, oneRows, nearRows, answeredNow, joinsQueue, begunRow}
 use Rattle.engine.proofs.Rooms.{answered-room, begun-words}
+use Rattle.model.specs.Parts.{All, Sound, SoundOne}
+use Rattle.record.specs.Fitting.{Eight, Fit, Known}
+use Rattle.record.specs.Widths.{liveWidth, runWidth, liveLength, runsLength, undoLength}
 
 -- what Drain's bullets do, by two tests
 
@@ -66,7 +69,7 @@ placed-by (u ∷ us) w r ans joins ea ej =
 -- The rows of the uncommitted ones
 
 module _ (n : ℕ) (ws : List Waiting) where
-  module _ (A : List Waiting) (t : Waiting) (B : List Waiting) (b : ℕ) (ea : All Eight A) (et : Eight t) (eb : 28 * length A ≡ b) where
+  module _ (A : List Waiting) (t : Waiting) (B : List Waiting) (b : ℕ) (ea : All Eight A) (et : Eight t) (eb : liveWidth * length A ≡ b) where
     flags-back : getD (padded n (allRows (A ++ t ∷ B))) (b + 1) 0 ≡ t .fragment .flags
     unfolding rowWords
     flags-back = row-read n A t B b ea et eb 1 (omega arith)
@@ -88,25 +91,25 @@ module _ (n : ℕ) (ws : List Waiting) where
         go true = refl
         go false = refl
 
-  pub one-back : (A : List Waiting) (us : List Uncommitted) (b k : ℕ) → All Eight A → All Eight (liveRows us ws) → 28 * length A ≡ b → oneRows (padded n (allRows (A ++ liveRows us ws))) b (length us) k ≡ oneCoordinator k us
+  pub one-back : (A : List Waiting) (us : List Uncommitted) (b k : ℕ) → All Eight A → All Eight (liveRows us ws) → liveWidth * length A ≡ b → oneRows (padded n (allRows (A ++ liveRows us ws))) b (length us) k ≡ oneCoordinator k us
   unfolding oneRows
   one-back A [] b k ea el eb = refl
   one-back A (u ∷ us) b k ea el eb =
       let l : (A ++ (requeued u ∷ [])) ++ liveRows us ws ≡ A ++ liveRows (u ∷ us) ws = append-assoc A (requeued u ∷ []) (liveRows us ws) in
-      let rest : oneRows (padded n (allRows (A ++ liveRows (u ∷ us) ws))) (b + 28) (length us) k ≡ oneCoordinator k us =
-      ap (λ (x : List Waiting). oneRows (padded n (allRows x)) (b + 28) (length us) k) (sym l)
-      ∙ one-back (A ++ (requeued u ∷ [])) us (b + 28) k (all-append Eight A (requeued u ∷ []) ea (el .0, tt)) (el .1) (omega (arith, length-append A (requeued u ∷ []))) in
+      let rest : oneRows (padded n (allRows (A ++ liveRows (u ∷ us) ws))) (b + liveWidth) (length us) k ≡ oneCoordinator k us =
+      ap (λ (x : List Waiting). oneRows (padded n (allRows x)) (b + liveWidth) (length us) k) (sym l)
+      ∙ one-back (A ++ (requeued u ∷ [])) us (b + liveWidth) k (all-append Eight A (requeued u ∷ []) ea (el .0, tt)) (el .1) (omega (arith, length-append A (requeued u ∷ []))) in
       λ i. same-back A (requeued u) (liveRows us ws) b ea (el .0) eb k i && rest i
 
-  pub near-all : (A : List Waiting) (us : List Uncommitted) (b d : ℕ) → All Eight A → All Eight (liveRows us ws) → 28 * length A ≡ b → nearRows d (padded n (allRows (A ++ liveRows us ws))) b (length us) ≡ nearest d us
+  pub near-all : (A : List Waiting) (us : List Uncommitted) (b d : ℕ) → All Eight A → All Eight (liveRows us ws) → liveWidth * length A ≡ b → nearRows d (padded n (allRows (A ++ liveRows us ws))) b (length us) ≡ nearest d us
   unfolding nearRows
   near-all A [] b d ea el eb = refl
   near-all A (u ∷ us) b d ea el eb =
       let L : List ℕ = padded n (allRows (A ++ liveRows (u ∷ us) ws)) in
       let l : (A ++ (requeued u ∷ [])) ++ liveRows us ws ≡ A ++ liveRows (u ∷ us) ws = append-assoc A (requeued u ∷ []) (liveRows us ws) in
-      ap (λ (x : ℕ). nearRows x L (b + 28) (length us)) (near-back A (requeued u) (liveRows us ws) b ea (el .0) eb d)
-      ∙ ap (λ (x : List Waiting). nearRows (elim (multi (u .first)) as (λ _. ℕ) [ true ↦ u .number | false ↦ d ]) (padded n (allRows x)) (b + 28) (length us)) (sym l)
-      ∙ near-all (A ++ (requeued u ∷ [])) us (b + 28) (elim (multi (u .first)) as (λ _. ℕ) [ true ↦ u .number | false ↦ d ]) (all-append Eight A (requeued u ∷ []) ea (el .0, tt)) (el .1) (omega (arith, length-append A (requeued u ∷ [])))
+      ap (λ (x : ℕ). nearRows x L (b + liveWidth) (length us)) (near-back A (requeued u) (liveRows us ws) b ea (el .0) eb d)
+      ∙ ap (λ (x : List Waiting). nearRows (elim (multi (u .first)) as (λ _. ℕ) [ true ↦ u .number | false ↦ d ]) (padded n (allRows x)) (b + liveWidth) (length us)) (sym l)
+      ∙ near-all (A ++ (requeued u ∷ [])) us (b + liveWidth) (elim (multi (u .first)) as (λ _. ℕ) [ true ↦ u .number | false ↦ d ]) (all-append Eight A (requeued u ∷ []) ea (el .0, tt)) (el .1) (omega (arith, length-append A (requeued u ∷ [])))
       ∙ go (multi (u .first))
     where
       go : (m : Bool) → nearest (elim m as (λ _. ℕ) [ true ↦ u .number | false ↦ d ]) us ≡ elim m as (λ _. ℕ) [ true ↦ nearest (u .number) us | false ↦ nearest d us ]
@@ -121,19 +124,19 @@ rows-joined (u ∷ us) w ws v e = ap {B = List Waiting} (λ (x : List Waiting). 
 
 -- what turn's callees say: number and fragment of the first waiting one, its run, the tests, and what they left
 pub record Facts (live runs undo room : List ℕ) (cells : Cells) (c : Counts) (number : ℕ) (f : Fragment) (r : Ran) (m la one ans joins : Bool) (near a′ : ℕ) (runs′ undo′ room′ : List ℕ) (cells′ : Cells) (c′ : Counts) : Type 0 where
-  pub numbered : number ≡ getD live (28 * (c .first + c .uncommitted)) 0
-  pub fragment : f ≡ fragmentAt live (28 * (c .first + c .uncommitted))
+  pub numbered : number ≡ getD live (liveWidth * (c .first + c .uncommitted)) 0
+  pub fragment : f ≡ fragmentAt live (liveWidth * (c .first + c .uncommitted))
   pub ran : r ≡ laid (run f cells [])
   pub stands : cells′ ≡ run f cells [] .cells
   pub multi : m ≡ multi f
   pub last : la ≡ last f
-  pub is-one : one ≡ oneRows live (28 * c .first) (c .uncommitted) (f .coordinator)
-  pub is-near : near ≡ nearRows 0 live (28 * c .first) (c .uncommitted)
+  pub is-one : one ≡ oneRows live (liveWidth * c .first) (c .uncommitted) (f .coordinator)
+  pub is-near : near ≡ nearRows 0 live (liveWidth * c .first) (c .uncommitted)
   pub is-ans : ans ≡ answeredNow (c .uncommitted) m one
   pub is-joins : joins ≡ joinsQueue (c .uncommitted) m
   pub count : a′ ≡ pick ans (c .answers + 1) (c .answers)
-  pub is-room : room′ ≡ pick ans (answered (c .answers) number near r room) room
-  pub is-runs : runs′ ≡ pick joins (sets runs (16 * c .uncommitted) (begunRow (not ans) la r)) runs
+  pub is-room : room′ ≡ pick ans (withAnswer (c .answers) number near r room) room
+  pub is-runs : runs′ ≡ pick joins (sets runs (runWidth * c .uncommitted) (begunRow (not ans) la r)) runs
   pub is-undo : undo′ ≡ pick joins (sets undo (2 * c .entries) (numbersFrom (r .undo) 0 (2 * r .entries))) undo
   pub counts : c′ ≡ pick joins (joinedCounts (withAnswers a′ c) r) (settledCounts (withAnswers a′ c))
 
@@ -159,30 +162,30 @@ module _ (live runs undo room : List ℕ) (cells : Cells) (c : Counts) (number :
   eL : All Eight (liveRows us (w ∷ ws))
   eL = eights-rest gone (liveRows us (w ∷ ws)) (work .eights)
 
-  at : 28 * length (gone ++ map requeued us) ≡ 28 * (c .first + c .uncommitted)
-  at = ap (λ (x : ℕ). 28 * x) (length-append gone (map requeued us) ∙ omega (arith, length-map us requeued, work .first, work .uncommitted))
+  at : liveWidth * length (gone ++ map requeued us) ≡ liveWidth * (c .first + c .uncommitted)
+  at = ap (λ (x : ℕ). liveWidth * x) (length-append gone (map requeued us) ∙ omega (arith, length-map us requeued, work .first, work .uncommitted))
 
-  at-live : live ≡ padded 1792 (allRows ((gone ++ map requeued us) ++ w ∷ ws))
-  at-live = work .at-live ∙ ap (λ (x : List Waiting). padded 1792 (allRows x)) whole
+  at-live : live ≡ padded liveLength (allRows ((gone ++ map requeued us) ++ w ∷ ws))
+  at-live = work .at-live ∙ ap (λ (x : List Waiting). padded liveLength (allRows x)) whole
 
   is-fragment : f ≡ w .fragment
-  is-fragment = facts .fragment ∙ ap (λ (l : List ℕ). fragmentAt l (28 * (c .first + c .uncommitted))) at-live ∙ fragment-back 1792 (gone ++ map requeued us) w ws (28 * (c .first + c .uncommitted)) eA eW at
+  is-fragment = facts .fragment ∙ ap (λ (l : List ℕ). fragmentAt l (liveWidth * (c .first + c .uncommitted))) at-live ∙ fragment-back liveLength (gone ++ map requeued us) w ws (liveWidth * (c .first + c .uncommitted)) eA eW at
 
   is-number : number ≡ w .number
-  is-number = facts .numbered ∙ ap (λ (l : List ℕ). getD l (28 * (c .first + c .uncommitted)) 0) at-live ∙ number-back 1792 (gone ++ map requeued us) w ws (28 * (c .first + c .uncommitted)) eA eW at
+  is-number = facts .numbered ∙ ap (λ (l : List ℕ). getD l (liveWidth * (c .first + c .uncommitted)) 0) at-live ∙ number-back liveLength (gone ++ map requeued us) w ws (liveWidth * (c .first + c .uncommitted)) eA eW at
 
   is-run : r ≡ laid (run (w .fragment) cells [])
   is-run = facts .ran ∙ ap (λ (x : Fragment). laid (run x cells [])) is-fragment
 
-  first-at : 28 * length gone ≡ 28 * c .first
-  first-at = ap (λ (x : ℕ). 28 * x) (work .first)
+  first-at : liveWidth * length gone ≡ liveWidth * c .first
+  first-at = ap (λ (x : ℕ). liveWidth * x) (work .first)
 
   is-one : one ≡ oneCoordinator (w .fragment .coordinator) us
   is-one =
-      facts .is-one ∙ (λ i. oneRows (work .at-live i) (28 * c .first) (sym (work .uncommitted) i) (is-fragment i .coordinator)) ∙ one-back 1792 (w ∷ ws) gone us (28 * c .first) (w .fragment .coordinator) eG eL first-at
+      facts .is-one ∙ (λ i. oneRows (work .at-live i) (liveWidth * c .first) (sym (work .uncommitted) i) (is-fragment i .coordinator)) ∙ one-back liveLength (w ∷ ws) gone us (liveWidth * c .first) (w .fragment .coordinator) eG eL first-at
 
   is-near : near ≡ nearest 0 us
-  is-near = facts .is-near ∙ (λ i. nearRows 0 (work .at-live i) (28 * c .first) (sym (work .uncommitted) i)) ∙ near-all 1792 (w ∷ ws) gone us (28 * c .first) 0 eG eL first-at
+  is-near = facts .is-near ∙ (λ i. nearRows 0 (work .at-live i) (liveWidth * c .first) (sym (work .uncommitted) i)) ∙ near-all liveLength (w ∷ ws) gone us (liveWidth * c .first) 0 eG eL first-at
 
   is-multi : m ≡ multi (w .fragment)
   is-multi = facts .multi ∙ ap multi is-fragment
@@ -199,9 +202,9 @@ module _ (live runs undo room : List ℕ) (cells : Cells) (c : Counts) (number :
   room-is : room′ ≡ filled (sent ++ pick ans (answer (w .number) (nearest 0 us) (run (w .fragment) cells [] .outcome) ∷ []) []) room₀
   room-is = facts .is-room ∙ go ans
     where
-      go : (b : Bool) → pick b (answered (c .answers) number near r room) room ≡ filled (sent ++ pick b (answer (w .number) (nearest 0 us) (run (w .fragment) cells [] .outcome) ∷ []) []) room₀
+      go : (b : Bool) → pick b (withAnswer (c .answers) number near r room) room ≡ filled (sent ++ pick b (answer (w .number) (nearest 0 us) (run (w .fragment) cells [] .outcome) ∷ []) []) room₀
       go true =
-          (λ i. answered (c .answers) (is-number i) (is-near i) r room)
+          (λ i. withAnswer (c .answers) (is-number i) (is-near i) r room)
           ∙ answered-room sent (w .number) (nearest 0 us) (run (w .fragment) cells []) r room room₀ (c .answers) is-run (left .numbers) (work .at-room) (work .answers) (omega (arith, work .enough, small .answers, work .waiting))
       go false = work .at-room ∙ ap (λ (l : List Answer). filled l room₀) (sym (append-nil sent))
 
@@ -223,16 +226,16 @@ module _ (live runs undo room : List ℕ) (cells : Cells) (c : Counts) (number :
       go [] h = omega arith
       go (u ∷ l) h = ltb-true (length (u ∷ l)) depth (may-less σ u l h)
 
-  runs-length : length (allRuns us) ≡ 16 * c .uncommitted
-  runs-length = length-runs us (all-map Known Fit (λ u k. k .0) us (known-of ct us (s .each))) ∙ ap (λ (n : ℕ). 16 * n) (work .uncommitted)
+  runs-length : length (allRuns us) ≡ runWidth * c .uncommitted
+  runs-length = length-runs us (all-map Known Fit (λ u k. k .0) us (known-of ct us (s .each))) ∙ ap (λ (n : ℕ). runWidth * n) (work .uncommitted)
 
-  runs-is : joins ≡ true → runs′ ≡ padded 256 (allRuns (us ++ (begun w (run (w .fragment) cells []) (pick (not ans) (Held (run (w .fragment) cells [] .outcome)) Sent) ∷ [])))
+  runs-is : joins ≡ true → runs′ ≡ padded runsLength (allRuns (us ++ (begun w (run (w .fragment) cells []) (pick (not ans) (Held (run (w .fragment) cells [] .outcome)) Sent) ∷ [])))
   unfolding allRuns
   runs-is j =
-      facts .is-runs ∙ ap (λ (b : Bool). pick b (sets runs (16 * c .uncommitted) (begunRow (not ans) la r)) runs) j
-      ∙ (λ i. sets (work .at-runs i) (16 * c .uncommitted) (begun-words w (run (w .fragment) cells []) r la (not ans) is-run (facts .last ∙ ap last is-fragment) i))
-      ∙ lay-padded 256 (allRuns us) (runWords v) (16 * c .uncommitted) runs-length (omega (arith, length-run v fit-v, few-us, work .uncommitted))
-      ∙ ap (padded 256) (ap (λ (l : List ℕ). allRuns us ++ l) (sym (append-nil (runWords v))) ∙ sym (runs-append us (v ∷ [])))
+      facts .is-runs ∙ ap (λ (b : Bool). pick b (sets runs (runWidth * c .uncommitted) (begunRow (not ans) la r)) runs) j
+      ∙ (λ i. sets (work .at-runs i) (runWidth * c .uncommitted) (begun-words w (run (w .fragment) cells []) r la (not ans) is-run (facts .last ∙ ap last is-fragment) i))
+      ∙ lay-padded runsLength (allRuns us) (runWords v) (runWidth * c .uncommitted) runs-length (omega (arith, length-run v fit-v, few-us, work .uncommitted))
+      ∙ ap (padded runsLength) (ap (λ (l : List ℕ). allRuns us ++ l) (sym (append-nil (runWords v))) ∙ sym (runs-append us (v ∷ [])))
     where
       fit-v : Fit v
       fit-v = go (not ans)
@@ -249,13 +252,13 @@ module _ (live runs undo room : List ℕ) (cells : Cells) (c : Counts) (number :
   undo-joined : undoList (us ++ (begun w (run (w .fragment) cells []) (pick (not ans) (Held (run (w .fragment) cells [] .outcome)) Sent) ∷ [])) ≡ undoList us ++ run (w .fragment) cells [] .undo
   undo-joined = undo-append us (v ∷ []) ∙ ap (λ (l : List Undo). undoList us ++ l) (append-nil (run (w .fragment) cells [] .undo))
 
-  undo-is : joins ≡ true → undo′ ≡ padded 368 (flat (undoList (us ++ (begun w (run (w .fragment) cells []) (pick (not ans) (Held (run (w .fragment) cells [] .outcome)) Sent) ∷ []))))
+  undo-is : joins ≡ true → undo′ ≡ padded undoLength (flat (undoList (us ++ (begun w (run (w .fragment) cells []) (pick (not ans) (Held (run (w .fragment) cells [] .outcome)) Sent) ∷ []))))
   undo-is j =
       facts .is-undo ∙ ap (λ (b : Bool). pick b (sets undo (2 * c .entries) (numbersFrom (r .undo) 0 (2 * r .entries))) undo) j
       ∙ (λ i. sets (work .at-undo i) (2 * c .entries) (own-entries i))
-      ∙ lay-padded 368 (flat (undoList us)) (flat (run (w .fragment) cells [] .undo)) (2 * c .entries) (length-flat (undoList us) ∙ ap (λ (n : ℕ). 2 * n) (work .entries))
+      ∙ lay-padded undoLength (flat (undoList us)) (flat (run (w .fragment) cells [] .undo)) (2 * c .entries) (length-flat (undoList us) ∙ ap (λ (n : ℕ). 2 * n) (work .entries))
       (omega (arith, length-flat (run (w .fragment) cells [] .undo), left .few, small .entries, few-us, work .uncommitted))
-      ∙ ap (padded 368) (sym (flat-append (undoList us) (run (w .fragment) cells [] .undo)) ∙ ap flat (sym undo-joined))
+      ∙ ap (padded undoLength) (sym (flat-append (undoList us) (run (w .fragment) cells [] .undo)) ∙ ap flat (sym undo-joined))
 
   joins-work : joins ≡ true → Work live runs′ undo′ room′ c′ gone (us ++ (begun w (run (w .fragment) cells []) (pick (not ans) (Held (run (w .fragment) cells [] .outcome)) Sent) ∷ [])) ws
       (sent ++ pick ans (answer (w .number) (nearest 0 us) (run (w .fragment) cells [] .outcome) ∷ []) []) room₀
@@ -265,7 +268,7 @@ module _ (live runs undo room : List ℕ) (cells : Cells) (c : Counts) (number :
       let rows : liveRows (us ++ (v ∷ [])) ws ≡ liveRows us (w ∷ ws) = rows-joined us w ws v refl in
       let n : r .entries ≡ length (run (w .fragment) cells [] .undo) = ap (λ (x : Ran). x .entries) is-run in
       record {
-        at-live = work .at-live ∙ ap (λ (l : List Waiting). padded 1792 (allRows (gone ++ l))) (sym rows);
+        at-live = work .at-live ∙ ap (λ (l : List Waiting). padded liveLength (allRows (gone ++ l))) (sym rows);
         at-runs = runs-is j;
         at-undo = undo-is j;
         at-room = room-is;
@@ -286,8 +289,8 @@ module _ (live runs undo room : List ℕ) (cells : Cells) (c : Counts) (number :
       let rows : gone ++ liveRows us (w ∷ ws) ≡ (gone ++ (w ∷ [])) ++ liveRows us ws =
       ap (λ (l : List Uncommitted). gone ++ liveRows l (w ∷ ws)) z ∙ sym (append-assoc gone (w ∷ []) ws) ∙ ap (λ (l : List Uncommitted). (gone ++ (w ∷ [])) ++ liveRows l ws) (sym z) in
       record {
-        at-live = work .at-live ∙ ap (λ (l : List Waiting). padded 1792 (allRows l)) rows;
-        at-runs = facts .is-runs ∙ ap (λ (b : Bool). pick b (sets runs (16 * c .uncommitted) (begunRow (not ans) la r)) runs) j ∙ work .at-runs;
+        at-live = work .at-live ∙ ap (λ (l : List Waiting). padded liveLength (allRows l)) rows;
+        at-runs = facts .is-runs ∙ ap (λ (b : Bool). pick b (sets runs (runWidth * c .uncommitted) (begunRow (not ans) la r)) runs) j ∙ work .at-runs;
         at-undo = facts .is-undo ∙ ap (λ (b : Bool). pick b (sets undo (2 * c .entries) (numbersFrom (r .undo) 0 (2 * r .entries))) undo) j ∙ work .at-undo;
         at-room = room-is;
         first = length-append gone (w ∷ []) ∙ ap (λ (x : ℕ). x + 1) (work .first) ∙ sym (ap (λ (x : Counts). x .first) e);
@@ -299,9 +302,9 @@ module _ (live runs undo room : List ℕ) (cells : Cells) (c : Counts) (number :
         enough = work .enough;
       }
 
-  pub turn-left : Left live runs′ undo′ room′ c′ cells′ sent room₀
+  pub take-first-left : Left live runs′ undo′ room′ c′ cells′ sent room₀
       (record { cells = run (w .fragment) cells [] .cells; uncommitted = placed us w (run (w .fragment) cells []) .uncommitted; waiting = ws; answers = placed us w (run (w .fragment) cells []) .answers })
-  turn-left = go joins refl
+  take-first-left = go joins refl
     where
       p : placed us w (run (w .fragment) cells []) ≡ record {
         uncommitted = pick joins (us ++ (begun w (run (w .fragment) cells []) (pick (not ans) (Held (run (w .fragment) cells [] .outcome)) Sent) ∷ [])) us;

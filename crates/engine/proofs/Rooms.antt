@@ -15,7 +15,9 @@ use Rattle.model.specs.declared.Fragment.{Fragment}
 use Rattle.operations.specs.Laid.{padded, flat, laid}
 use Rattle.operations.specs.declared.Ran.{Ran}
 use Rattle.record.specs.Words.{stateWord, runWords}
-use Rattle.engine.specs.Work.{answerRow, runRow, stateWordAfter, begunRow, answered}
+use Rattle.engine.specs.Work.{withAnswer}
+use Rattle.rows.specs.Rows.{answerRow, runRow, stateWordAfter, begunRow}
+use Rattle.model.specs.Limits.{answerWords}
 
 -- eight numbers, padded or cut
 padded-eight : (l : List ℕ) → length l ≤ 8 → padded 8 l ≡ take 8 (l ++ replicate 8 0)
@@ -35,13 +37,13 @@ pub answer-row : (n d : ℕ) (o : Outcome) → length (o .numbers) ≤ 8 → ans
 unfolding words
 answer-row n d o h = ap {B = List ℕ} (λ (x : List ℕ). n ∷ d ∷ o .place ∷ length (o .numbers) ∷ x ++ (0 ∷ 0 ∷ 0 ∷ 0 ∷ [])) (padded-eight (o .numbers) h)
 
-pub length-words : (a : Answer) → length (words a) ≡ 16
+pub length-words : (a : Answer) → length (words a) ≡ answerWords
 unfolding words
 length-words a =
     let ns : List ℕ = take 8 (a .outcome .numbers ++ replicate 8 0) in
     omega (arith, length-append ns (replicate {A = ℕ} 4 0), length-take 8 (a .outcome .numbers ++ replicate 8 0), length-append (a .outcome .numbers) (replicate {A = ℕ} 8 0))
 
-pub length-all : (l : List Answer) → length (allWords l) ≡ 16 * length l
+pub length-all : (l : List Answer) → length (allWords l) ≡ answerWords * length l
 unfolding allWords
 length-all [] = omega arith
 length-all (a ∷ l) = length-append (words a) (allWords l) ∙ omega (arith, length-words a, length-all l)
@@ -52,28 +54,28 @@ all-append [] b = refl
 all-append (x ∷ a) b = ap (λ (y : List ℕ). words x ++ y) (all-append a b) ∙ sym (append-assoc (words x) (allWords a) (allWords b))
 
 -- "the rest of the room stays untouched": one more answer in a room that holds some
-pub room-more : (l : List Answer) (a : Answer) (room₀ : List ℕ) (n : ℕ) → length l ≡ n → 16 * (n + 1) ≤ length room₀ → sets (filled l room₀) (16 * n) (words a) ≡ filled (l ++ (a ∷ [])) room₀
+pub room-more : (l : List Answer) (a : Answer) (room₀ : List ℕ) (n : ℕ) → length l ≡ n → answerWords * (n + 1) ≤ length room₀ → sets (filled l room₀) (answerWords * n) (words a) ≡ filled (l ++ (a ∷ [])) room₀
 unfolding allWords
 room-more l a room₀ n e h =
     let w : List ℕ = allWords l in
-    let lw : length w ≡ 16 * n = length-all l ∙ ap (λ (x : ℕ). 16 * x) e in
-    let la : length (words a) ≡ 16 = length-words a in
+    let lw : length w ≡ answerWords * n = length-all l ∙ ap (λ (x : ℕ). answerWords * x) e in
+    let la : length (words a) ≡ answerWords = length-words a in
     let rest : List ℕ = drop (length w) room₀ in
     let whole : length (w ++ rest) ≡ length room₀ = length-append w rest ∙ omega (arith, length-drop (length w) room₀) in
     let both : allWords (l ++ (a ∷ [])) ≡ w ++ words a = all-append l (a ∷ []) ∙ ap (λ (x : List ℕ). w ++ x) (append-nil (words a)) in
     let lb : length (allWords (l ++ (a ∷ []))) ≡ length w + length (words a) = ap length both ∙ length-append w (words a) in
-    let cut : drop (16 * n + length (words a)) (w ++ rest) ≡ drop (length (allWords (l ++ (a ∷ [])))) room₀ =
+    let cut : drop (answerWords * n + length (words a)) (w ++ rest) ≡ drop (length (allWords (l ++ (a ∷ [])))) room₀ =
     ap (λ (x : ℕ). drop (x + length (words a)) (w ++ rest)) (sym lw) ∙ drop-append-add w rest (length (words a)) ∙ drop-drop (length (words a)) (length w) room₀ ∙ ap (λ (x : ℕ). drop x room₀) (sym lb) in
-    sets-eq (words a) (w ++ rest) (16 * n) (omega arith)
-    ∙ (λ i. take-at w rest (16 * n) lw i ++ words a ++ cut i)
+    sets-eq (words a) (w ++ rest) (answerWords * n) (omega arith)
+    ∙ (λ i. take-at w rest (answerWords * n) lw i ++ words a ++ cut i)
     ∙ ap (λ (x : List ℕ). x ++ drop (length (allWords (l ++ (a ∷ [])))) room₀) (sym both)
 
 -- a run's answer in the room
-pub answered-room : (l : List Answer) (n d : ℕ) (R : Steps.Ran) (r : Ran) (room room₀ : List ℕ) (a : ℕ) → r ≡ laid R → length (R .outcome .numbers) ≤ 8 → room ≡ filled l room₀ → length l ≡ a → 16 * (a + 1) ≤ length room₀
-    → answered a n d r room ≡ filled (l ++ (answer n d (R .outcome) ∷ [])) room₀
+pub answered-room : (l : List Answer) (n d : ℕ) (R : Steps.Ran) (r : Ran) (room room₀ : List ℕ) (a : ℕ) → r ≡ laid R → length (R .outcome .numbers) ≤ 8 → room ≡ filled l room₀ → length l ≡ a → answerWords * (a + 1) ≤ length room₀
+    → withAnswer a n d r room ≡ filled (l ++ (answer n d (R .outcome) ∷ [])) room₀
 unfolding laid
 answered-room l n d R r room room₀ a er hr em el h =
-    (λ i. sets (em i) (16 * a) (answerRow n d (er i .place) (er i .count) (er i .numbers))) ∙ ap (sets (filled l room₀) (16 * a)) (answer-row n d (R .outcome) hr) ∙ room-more l (answer n d (R .outcome)) room₀ a el h
+    (λ i. sets (em i) (answerWords * a) (answerRow n d (er i .place) (er i .count) (er i .numbers))) ∙ ap (sets (filled l room₀) (answerWords * a)) (answer-row n d (R .outcome) hr) ∙ room-more l (answer n d (R .outcome)) room₀ a el h
 
 -- The run of one that ran
 

@@ -9,22 +9,26 @@ use mathlib.Core.List.{List, [], _∷_, _++_, append-assoc, append-nil, map}
 use lib.Dec.{eqb}
 use lib.ListN.{length, getD, take, drop, replicate, length-append, length-map, List·getD-append}
 use lib.Seq.{sets, sets-eq, take-at, drop-at, drop-append-add, getD-append-add}
-use Rattle.model.specs.Limits.{leastRoom}
+use Rattle.model.specs.Limits.{leastRoom, answerWords}
 use Rattle.model.specs.Operations.{Outcome, pick, multi}
 use Rattle.model.specs.Transactions.{Reply, Held, Sent, NoReply, Uncommitted, Waiting, Answer, answer, words, undoList, filled, front}
 use Rattle.model.specs.Steps.{requeued, heldBy, sent, Place, settled}
 use Rattle.model.specs.Refusals.{isReply}
 use Rattle.model.specs.declared.Undo.{Undo}
-use Rattle.model.proofs.Chain.{All, all-append, all-map}
+use Rattle.model.proofs.Chain.{all-append, all-map}
 use Rattle.operations.specs.Laid.{padded, flat}
 use Rattle.operations.proofs.Turns.{length-padded}
 use Rattle.record.specs.Words.{rowWords, allRows, stateWord, replyWord, heldOutcome, outcomeWords, runWords, allRuns, liveRows}
 use Rattle.record.specs.View.{numbersFrom}
 use Rattle.record.proofs.Rows.{shift-padded, numbers-same, numbers-whole, getD-padded}
-use Rattle.record.proofs.Back.{Eight, Fit, Known, eights-first, eights-rest, row-read, number-back, length-run, length-runs, run-read, length-flat, flat-append, block-read}
-use Rattle.engine.specs.declared.queues.Counts.{Counts}
-use Rattle.engine.specs.Work.{Work, Fair, holdsRow, heldRow, Dropped, SettledOne, SettledTo, Singles, multiRow, sentRow, runRow, Fronted, Settled, withAnswers}
+use Rattle.record.proofs.Back.{eights-first, eights-rest, row-read, number-back, length-run, length-runs, run-read, length-flat, flat-append, block-read}
+use Rattle.engine.specs.declared.counts.Counts.{Counts}
+use Rattle.engine.specs.Work.{Work, Fair, Dropped, SettledOne, SettledTo, Singles, Fronted, Settled, withAnswers}
+use Rattle.rows.specs.Rows.{holdsRow, heldRow, multiRow, sentRow, runRow}
 use Rattle.engine.proofs.Rooms.{answer-row, length-words, room-more}
+use Rattle.model.specs.Parts.{All}
+use Rattle.record.specs.Fitting.{Eight, Fit, Known}
+use Rattle.record.specs.Widths.{liveWidth, runWidth, liveLength, runsLength, undoLength}
 
 run-word-2 : (u : Uncommitted) → getD (runWords u) 2 0 ≡ replyWord (u .reply)
 unfolding runWords
@@ -47,26 +51,26 @@ sets-front x z w e =
 -- The first of the queue leaves it
 
 pub dropped : (runs undo runs′ undo′ : List ℕ) (c c′ : Counts) (own e : ℕ) → Fair c → own ≡ getD runs 3 0 → e ≡ min own (c .entries)
-    → runs′ ≡ sets runs 0 (numbersFrom runs 16 (16 * c .uncommitted)) → undo′ ≡ sets undo 0 (numbersFrom undo (2 * e) (2 * c .entries))
+    → runs′ ≡ sets runs 0 (numbersFrom runs runWidth (runWidth * c .uncommitted)) → undo′ ≡ sets undo 0 (numbersFrom undo (2 * e) (2 * c .entries))
     → c′ ≡ record { first = c .first + 1; uncommitted = c .uncommitted - 1; waiting = c .waiting; entries = c .entries - e; answers = c .answers }
     → Dropped runs undo c runs′ undo′ c′
 unfolding allRuns
 dropped runs undo runs′ undo′ c c′ own e fair eo ee er eu ec live room gone u us ws sent room₀ w k =
     let fits : All Fit (u ∷ us) = all-map Known Fit (λ v h. h .0) (u ∷ us) k in
-    let lu : length (runWords u) ≡ 16 = length-run u (fits .0) in
-    let own-is : own ≡ length (u .undo) = eo ∙ ap (λ (l : List ℕ). getD l 3 0) (w .at-runs) ∙ run-read 256 [] u us 0 3 tt (fits .0) refl (omega arith) ∙ run-word-3 u in
+    let lu : length (runWords u) ≡ runWidth = length-run u (fits .0) in
+    let own-is : own ≡ length (u .undo) = eo ∙ ap (λ (l : List ℕ). getD l 3 0) (w .at-runs) ∙ run-read runsLength [] u us 0 3 tt (fits .0) refl (omega arith) ∙ run-word-3 u in
     let total : c .entries ≡ length (u .undo) + length (undoList us) = sym (w .entries) ∙ length-append (u .undo) (undoList us) in
     let e-is : e ≡ length (u .undo) = ee ∙ omega arith in
     let nu : suc (length us) ≡ c .uncommitted = w .uncommitted in
-    let all-length : length (runWords u ++ allRuns us) ≡ 16 * c .uncommitted = length-runs (u ∷ us) fits ∙ ap (λ (x : ℕ). 16 * x) (w .uncommitted) in
+    let all-length : length (runWords u ++ allRuns us) ≡ runWidth * c .uncommitted = length-runs (u ∷ us) fits ∙ ap (λ (x : ℕ). runWidth * x) (w .uncommitted) in
     let flat-is : flat (undoList (u ∷ us)) ≡ flat (u .undo) ++ flat (undoList us) = flat-append (u .undo) (undoList us) in
     let rows : gone ++ liveRows (u ∷ us) ws ≡ (gone ++ (requeued u ∷ [])) ++ liveRows us ws = sym (append-assoc gone (requeued u ∷ []) (liveRows us ws)) in
     record {
-      at-live = w .at-live ∙ ap (λ (x : List Waiting). padded 1792 (allRows x)) rows;
-      at-runs = er ∙ ap (λ (x : List ℕ). sets x 0 (numbersFrom x 16 (16 * c .uncommitted))) (w .at-runs) ∙ shift-padded 256 (runWords u) (allRuns us) 16 (16 * c .uncommitted) lu all-length (omega (arith, fair .depth));
+      at-live = w .at-live ∙ ap (λ (x : List Waiting). padded liveLength (allRows x)) rows;
+      at-runs = er ∙ ap (λ (x : List ℕ). sets x 0 (numbersFrom x runWidth (runWidth * c .uncommitted))) (w .at-runs) ∙ shift-padded runsLength (runWords u) (allRuns us) 16 (runWidth * c .uncommitted) lu all-length (omega (arith, fair .depth));
       at-undo = eu ∙ (λ i. sets (w .at-undo i) 0 (numbersFrom (w .at-undo i) (2 * e-is i) (2 * c .entries)))
-          ∙ ap (λ (x : List ℕ). sets (padded 368 x) 0 (numbersFrom (padded 368 x) (2 * length (u .undo)) (2 * c .entries))) flat-is
-          ∙ shift-padded 368 (flat (u .undo)) (flat (undoList us)) (2 * length (u .undo)) (2 * c .entries) (length-flat (u .undo)) (sym (ap length flat-is) ∙ length-flat (undoList (u ∷ us)) ∙ ap (λ (x : ℕ). 2 * x) (w .entries)) (omega (arith, fair .entries));
+          ∙ ap (λ (x : List ℕ). sets (padded undoLength x) 0 (numbersFrom (padded undoLength x) (2 * length (u .undo)) (2 * c .entries))) flat-is
+          ∙ shift-padded undoLength (flat (u .undo)) (flat (undoList us)) (2 * length (u .undo)) (2 * c .entries) (length-flat (u .undo)) (sym (ap length flat-is) ∙ length-flat (undoList (u ∷ us)) ∙ ap (λ (x : ℕ). 2 * x) (w .entries)) (omega (arith, fair .entries));
       at-room = w .at-room;
       first = length-append gone (requeued u ∷ []) ∙ ap (λ (x : ℕ). x + 1) (w .first) ∙ sym (ap (λ (x : Counts). x .first) ec);
       uncommitted = omega (arith, w .uncommitted, ap (λ (x : Counts). x .uncommitted) ec);
@@ -79,9 +83,9 @@ dropped runs undo runs′ undo′ c c′ own e fair eo ee er eu ec live room gon
 
 -- What a run holds
 
-module _ (u : Uncommitted) (us : List Uncommitted) (runs : List ℕ) (k : All Known (u ∷ us)) (e : runs ≡ padded 256 (allRuns (u ∷ us))) where
-  pub first-word : (j : ℕ) → j < 16 → getD runs j 0 ≡ getD (runWords u) j 0
-  first-word j h = ap (λ (l : List ℕ). getD l j 0) e ∙ (let z : j ≡ 0 + j = omega arith in ap (λ (x : ℕ). getD (padded 256 (allRuns (u ∷ us))) x 0) z) ∙ run-read 256 [] u us 0 j tt (k .0 .0) refl h
+module _ (u : Uncommitted) (us : List Uncommitted) (runs : List ℕ) (k : All Known (u ∷ us)) (e : runs ≡ padded runsLength (allRuns (u ∷ us))) where
+  pub first-word : (j : ℕ) → j < runWidth → getD runs j 0 ≡ getD (runWords u) j 0
+  first-word j h = ap (λ (l : List ℕ). getD l j 0) e ∙ (let z : j ≡ 0 + j = omega arith in ap (λ (x : ℕ). getD (padded runsLength (allRuns (u ∷ us))) x 0) z) ∙ run-read runsLength [] u us 0 j tt (k .0 .0) refl h
 
   held-words : numbersFrom runs 4 10 ≡ outcomeWords (heldOutcome (u .reply))
   unfolding runWords
@@ -95,25 +99,25 @@ module _ (u : Uncommitted) (us : List Uncommitted) (runs : List ℕ) (k : All Kn
       ∙ ap (numbersFrom (outcomeWords o) 0) (sym lo) ∙ numbers-whole (outcomeWords o)
 
   -- the room after what it holds was sent
-  pub held-room : (sent : List Answer) (room room′ room₀ : List ℕ) (a n : ℕ) → n ≡ u .number → room ≡ filled sent room₀ → length sent ≡ a → 16 * (a + 1) ≤ length room₀
-      → room′ ≡ pick (holdsRow runs) (sets room (16 * a) (heldRow runs n)) room → room′ ≡ filled (sent ++ heldBy u) room₀
-  held-room sent room room′ room₀ a n en er el h h′ = h′ ∙ ap (λ (b : Bool). pick b (sets room (16 * a) (heldRow runs n)) room) word ∙ go (u .reply) refl
+  pub held-room : (sent : List Answer) (room room′ room₀ : List ℕ) (a n : ℕ) → n ≡ u .number → room ≡ filled sent room₀ → length sent ≡ a → answerWords * (a + 1) ≤ length room₀
+      → room′ ≡ pick (holdsRow runs 0) (sets room (answerWords * a) (heldRow runs 0 n 0)) room → room′ ≡ filled (sent ++ heldBy u) room₀
+  held-room sent room room′ room₀ a n en er el h h′ = h′ ∙ ap (λ (b : Bool). pick b (sets room (answerWords * a) (heldRow runs 0 n 0)) room) word ∙ go (u .reply) refl
     where
-      word : holdsRow runs ≡ eqb (replyWord (u .reply)) 1
+      word : holdsRow runs 0 ≡ eqb (replyWord (u .reply)) 1
       word = ap (λ (x : ℕ). eqb x 1) (first-word 2 (omega arith) ∙ run-word-2 u)
 
-      go : (r : Reply) → u .reply ≡ r → pick (eqb (replyWord r) 1) (sets room (16 * a) (heldRow runs n)) room ≡ filled (sent ++ elim r as (λ _. List Answer) [ Held o ↦ answer (u .number) 0 o ∷ [] | Sent ↦ [] | NoReply ↦ [] ]) room₀
+      go : (r : Reply) → u .reply ≡ r → pick (eqb (replyWord r) 1) (sets room (answerWords * a) (heldRow runs 0 n 0)) room ≡ filled (sent ++ elim r as (λ _. List Answer) [ Held o ↦ answer (u .number) 0 o ∷ [] | Sent ↦ [] | NoReply ↦ [] ]) room₀
       go (Held o) q =
-          (λ i. sets (er i) (16 * a) (en i ∷ 0 ∷ (held-words ∙ ap (λ (r : Reply). outcomeWords (heldOutcome r)) q) i ++ (0 ∷ 0 ∷ 0 ∷ 0 ∷ [])))
-          ∙ ap (sets (filled sent room₀) (16 * a)) (answer-row (u .number) 0 o (subst (λ (r : Reply). length (heldOutcome r .numbers) ≤ 8) q (k .0 .0)))
+          (λ i. sets (er i) (answerWords * a) (en i ∷ 0 ∷ (held-words ∙ ap (λ (r : Reply). outcomeWords (heldOutcome r)) q) i ++ (0 ∷ 0 ∷ 0 ∷ 0 ∷ [])))
+          ∙ ap (sets (filled sent room₀) (answerWords * a)) (answer-row (u .number) 0 o (subst (λ (r : Reply). length (heldOutcome r .numbers) ≤ 8) q (k .0 .0)))
           ∙ room-more sent (answer (u .number) 0 o) room₀ a el h
       go Sent q = er ∙ ap (λ (l : List Answer). filled l room₀) (sym (append-nil sent))
       go NoReply q = er ∙ ap (λ (l : List Answer). filled l room₀) (sym (append-nil sent))
 
-  pub held-count : (sent : List Answer) (a a′ : ℕ) → length sent ≡ a → a′ ≡ pick (holdsRow runs) (a + 1) a → length (sent ++ heldBy u) ≡ a′
+  pub held-count : (sent : List Answer) (a a′ : ℕ) → length sent ≡ a → a′ ≡ pick (holdsRow runs 0) (a + 1) a → length (sent ++ heldBy u) ≡ a′
   held-count sent a a′ el ea = go (u .reply) ∙ sym (ea ∙ ap (λ (b : Bool). pick b (a + 1) a) word)
     where
-      word : holdsRow runs ≡ eqb (replyWord (u .reply)) 1
+      word : holdsRow runs 0 ≡ eqb (replyWord (u .reply)) 1
       word = ap (λ (x : ℕ). eqb x 1) (first-word 2 (omega arith) ∙ run-word-2 u)
 
       go : (r : Reply) → length (sent ++ elim r as (λ _. List Answer) [ Held o ↦ answer (u .number) 0 o ∷ [] | Sent ↦ [] | NoReply ↦ [] ]) ≡ pick (eqb (replyWord r) 1) (a + 1) a
@@ -122,22 +126,22 @@ module _ (u : Uncommitted) (us : List Uncommitted) (runs : List ℕ) (k : All Kn
       go NoReply = ap length (append-nil sent) ∙ el
 
   -- another run laid over its own
-  pub front-runs : (v : Uncommitted) (w runs′ : List ℕ) → Fit v → w ≡ runWords v → runs′ ≡ sets runs 0 w → runs′ ≡ padded 256 (allRuns (v ∷ us))
+  pub front-runs : (v : Uncommitted) (w runs′ : List ℕ) → Fit v → w ≡ runWords v → runs′ ≡ sets runs 0 w → runs′ ≡ padded runsLength (allRuns (v ∷ us))
   unfolding padded allRuns
   front-runs v w runs′ fit ew h =
-      let lu : length (runWords u) ≡ 16 = length-run u (k .0 .0) in
-      let lv : length (runWords v) ≡ 16 = length-run v fit in
-      let rest : List ℕ = allRuns us ++ replicate (256 - length (runWords u ++ allRuns us)) 0 in
-      let shape : padded 256 (allRuns (u ∷ us)) ≡ runWords u ++ rest = append-assoc (runWords u) (allRuns us) (replicate (256 - length (runWords u ++ allRuns us)) 0) in
+      let lu : length (runWords u) ≡ runWidth = length-run u (k .0 .0) in
+      let lv : length (runWords v) ≡ runWidth = length-run v fit in
+      let rest : List ℕ = allRuns us ++ replicate (runsLength - length (runWords u ++ allRuns us)) 0 in
+      let shape : padded runsLength (allRuns (u ∷ us)) ≡ runWords u ++ rest = append-assoc (runWords u) (allRuns us) (replicate (runsLength - length (runWords u ++ allRuns us)) 0) in
       let size : length (runWords u ++ allRuns us) ≡ length (runWords v ++ allRuns us) = length-append (runWords u) (allRuns us) ∙ ap (λ (x : ℕ). x + length (allRuns us)) (lu ∙ sym lv) ∙ sym (length-append (runWords v) (allRuns us)) in
       h ∙ (λ i. sets ((e ∙ shape) i) 0 (ew i)) ∙ sets-front (runWords u) rest (runWords v) (lu ∙ sym lv)
-      ∙ sym (append-assoc (runWords v) (allRuns us) (replicate (256 - length (runWords u ++ allRuns us)) 0))
-      ∙ ap (λ (n : ℕ). (runWords v ++ allRuns us) ++ replicate (256 - n) 0) size
+      ∙ sym (append-assoc (runWords v) (allRuns us) (replicate (runsLength - length (runWords u ++ allRuns us)) 0))
+      ∙ ap (λ (n : ℕ). (runWords v ++ allRuns us) ++ replicate (runsLength - n) 0) size
 
   -- its run once its answer is sent
-  pub sent-runs : (runs′ : List ℕ) → runs′ ≡ sets runs 0 (sentRow runs) → runs′ ≡ padded 256 (allRuns (sent u ∷ us))
+  pub sent-runs : (runs′ : List ℕ) → runs′ ≡ sets runs 0 (sentRow runs 0) → runs′ ≡ padded runsLength (allRuns (sent u ∷ us))
   sent-runs runs′ h =
-      front-runs (sent u) (sentRow runs) runs′ (omega arith)
+      front-runs (sent u) (sentRow runs 0) runs′ (omega arith)
       ((λ i. runRow (first-word 0 (omega arith) i) (first-word 1 (omega arith) i) 0 (first-word 3 (omega arith) i) 0 0 (replicate 8 0)) ∙ sent-words u) h
 
 settled-multi : (u : Uncommitted) (us : List Uncommitted) → multi (u .first) ≡ true → settled (u ∷ us) ≡ record { uncommitted = sent u ∷ us; answers = heldBy u }
@@ -159,15 +163,15 @@ settled-single u us e =
 -- One settles
 
 module _ (live runs undo room runs′ undo′ room′ : List ℕ) (c d c′ : Counts) (number a : ℕ) (fair : Fair c) (some : 0 < c .uncommitted)
-    (en : number ≡ getD live (28 * c .first) 0) (ea : a ≡ pick (holdsRow runs) (c .answers + 1) (c .answers))
-    (er : room′ ≡ pick (holdsRow runs) (sets room (16 * c .answers) (heldRow runs number)) room) where
+    (en : number ≡ getD live (liveWidth * c .first) 0) (ea : a ≡ pick (holdsRow runs 0) (c .answers + 1) (c .answers))
+    (er : room′ ≡ pick (holdsRow runs 0) (sets room (answerWords * c .answers) (heldRow runs 0 number 0)) room) where
   -- the number in the front's row, and its held answer in the room
   front-number : (gone : List Waiting) (u : Uncommitted) (us : List Uncommitted) (ws : List Waiting) (sent : List Answer) (room₀ : List ℕ) → Work live runs undo room c gone (u ∷ us) ws sent room₀ → number ≡ u .number
   front-number gone u us ws sent room₀ w =
-      en ∙ ap (λ (l : List ℕ). getD l (28 * c .first) 0) (w .at-live)
-      ∙ number-back 1792 gone (requeued u) (liveRows us ws) (28 * c .first) (eights-first gone (liveRows (u ∷ us) ws) (w .eights)) (eights-rest gone (liveRows (u ∷ us) ws) (w .eights) .0) (ap (λ (x : ℕ). 28 * x) (w .first))
+      en ∙ ap (λ (l : List ℕ). getD l (liveWidth * c .first) 0) (w .at-live)
+      ∙ number-back liveLength gone (requeued u) (liveRows us ws) (liveWidth * c .first) (eights-first gone (liveRows (u ∷ us) ws) (w .eights)) (eights-rest gone (liveRows (u ∷ us) ws) (w .eights) .0) (ap (λ (x : ℕ). liveWidth * x) (w .first))
 
-  fits : (gone : List Waiting) (u : Uncommitted) (us : List Uncommitted) (ws : List Waiting) (sent : List Answer) (room₀ : List ℕ) → Work live runs undo room c gone (u ∷ us) ws sent room₀ → 16 * (c .answers + 1) ≤ length room₀
+  fits : (gone : List Waiting) (u : Uncommitted) (us : List Uncommitted) (ws : List Waiting) (sent : List Answer) (room₀ : List ℕ) → Work live runs undo room c gone (u ∷ us) ws sent room₀ → answerWords * (c .answers + 1) ≤ length room₀
   fits gone u us ws sent room₀ w = omega (arith, w .enough, fair .answers, some)
 
   pub settled-one : Dropped runs undo c runs′ undo′ d → c′ ≡ withAnswers a d → SettledOne live runs undo room c runs′ undo′ room′ c′
@@ -188,7 +192,7 @@ module _ (live runs undo room runs′ undo′ room′ : List ℕ) (c d c′ : Co
       }
 
   pub settled-fair : Fair d → d .answers ≡ c .answers → d .uncommitted + 1 ≡ c .uncommitted → d .waiting ≡ c .waiting → c′ ≡ withAnswers a d → Fair c′
-  settled-fair f e1 e2 e3 ec = go (holdsRow runs) ea
+  settled-fair f e1 e2 e3 ec = go (holdsRow runs 0) ea
     where
       go : (b : Bool) → a ≡ pick b (c .answers + 1) (c .answers) → Fair c′
       go b h =
@@ -205,7 +209,7 @@ module _ (live runs undo room runs′ undo′ room′ : List ℕ) (c d c′ : Co
           under false h = omega arith
 
   -- a multi is first: the new front
-  pub fronted : runs′ ≡ sets runs 0 (sentRow runs) → c′ ≡ withAnswers a c → (gone : List Waiting) (u : Uncommitted) (us : List Uncommitted) (ws : List Waiting) (sent′ : List Answer) (room₀ : List ℕ)
+  pub fronted : runs′ ≡ sets runs 0 (sentRow runs 0) → c′ ≡ withAnswers a c → (gone : List Waiting) (u : Uncommitted) (us : List Uncommitted) (ws : List Waiting) (sent′ : List Answer) (room₀ : List ℕ)
       → Work live runs undo room c gone (u ∷ us) ws sent′ room₀ → All Known (u ∷ us) → multi (u .first) ≡ true
       → Work live runs′ undo room′ c′ gone (settled (u ∷ us) .uncommitted) ws (sent′ ++ settled (u ∷ us) .answers) room₀
   fronted eu ec gone u us ws sent′ room₀ w k m =
@@ -228,11 +232,11 @@ module _ (live runs undo room runs′ undo′ room′ : List ℕ) (c d c′ : Co
 
 -- is the front's row a multi's
 pub front-row : (live runs undo room : List ℕ) (c : Counts) (gone : List Waiting) (u : Uncommitted) (us : List Uncommitted) (ws : List Waiting) (sent : List Answer) (room₀ : List ℕ) → Work live runs undo room c gone (u ∷ us) ws sent room₀
-    → multiRow live (28 * c .first) ≡ multi (u .first)
+    → multiRow live (liveWidth * c .first) ≡ multi (u .first)
 unfolding rowWords multi
 front-row live runs undo room c gone u us ws sent room₀ w =
-    ap (λ (l : List ℕ). multiRow l (28 * c .first)) (w .at-live)
-    ∙ ap (λ (x : ℕ). eqb (x % 2) 1) (row-read 1792 gone (requeued u) (liveRows us ws) (28 * c .first) (eights-first gone (liveRows (u ∷ us) ws) (w .eights)) (eights-rest gone (liveRows (u ∷ us) ws) (w .eights) .0) (ap (λ (x : ℕ). 28 * x) (w .first)) 1 (omega arith))
+    ap (λ (l : List ℕ). multiRow l (liveWidth * c .first)) (w .at-live)
+    ∙ ap (λ (x : ℕ). eqb (x % 2) 1) (row-read liveLength gone (requeued u) (liveRows us ws) (liveWidth * c .first) (eights-first gone (liveRows (u ∷ us) ws) (w .eights)) (eights-rest gone (liveRows (u ∷ us) ws) (w .eights) .0) (ap (λ (x : ℕ). liveWidth * x) (w .first)) 1 (omega arith))
 
 -- what the loop keeps
 abbrev pub Midway : List ℕ → List ℕ → List ℕ → List ℕ → Counts → List ℕ → List ℕ → List ℕ → Counts → Type 0
@@ -244,7 +248,7 @@ midway-start live runs undo room c gone us ws sent room₀ w k =
     record { gone = gone; left = us; more = []; work = subst (λ (x : List Answer). Work live runs undo room c gone us ws x room₀) (sym (append-nil sent)) w; known = k; rest = refl }
 
 module _ (live runs₀ undo₀ room₀ runs undo room : List ℕ) (c₀ c : Counts) (mid : Midway live runs₀ undo₀ room₀ c₀ runs undo room c) where
-  pub midway-turn : 0 < c .uncommitted → multiRow live (28 * c .first) ≡ false → (runs′ undo′ room′ : List ℕ) (c′ : Counts) → SettledOne live runs undo room c runs′ undo′ room′ c′ → Midway live runs₀ undo₀ room₀ c₀ runs′ undo′ room′ c′
+  pub midway-turn : 0 < c .uncommitted → multiRow live (liveWidth * c .first) ≡ false → (runs′ undo′ room′ : List ℕ) (c′ : Counts) → SettledOne live runs undo room c runs′ undo′ room′ c′ → Midway live runs₀ undo₀ room₀ c₀ runs′ undo′ room′ c′
   midway-turn some single runs′ undo′ room′ c′ one gone us ws sent r₀ w k = let m = mid gone us ws sent r₀ w k in go (m .left) m refl
     where
       go : (l : List Uncommitted) (m : SettledTo live runs undo room c us ws sent r₀) → m .left ≡ l → SettledTo live runs′ undo′ room′ c′ us ws sent r₀
@@ -264,13 +268,13 @@ module _ (live runs₀ undo₀ room₀ runs undo room : List ℕ) (c₀ c : Coun
                 ∙ (λ i. record { uncommitted = settled l .uncommitted; answers = sym (append-assoc (m .more) (heldBy u) (settled l .answers)) i });
           }
 
-  pub midway-end : (c .uncommitted ≡ 0) ⊎ (multiRow live (28 * c .first) ≡ true) → Singles live runs₀ undo₀ room₀ c₀ runs undo room c
+  pub midway-end : (c .uncommitted ≡ 0) ⊎ (multiRow live (liveWidth * c .first) ≡ true) → Singles live runs₀ undo₀ room₀ c₀ runs undo room c
   midway-end stop gone us ws sent r₀ w k = let m = mid gone us ws sent r₀ w k in (m, go (m .left) refl m stop)
     where
-      go : (l : List Uncommitted) {m′ : List Uncommitted} → m′ ≡ l → (m : SettledTo live runs undo room c us ws sent r₀) → (c .uncommitted ≡ 0) ⊎ (multiRow live (28 * c .first) ≡ true) → front (λ (u : Uncommitted). not (multi (u .first))) (m .left) ≡ false
+      go : (l : List Uncommitted) {m′ : List Uncommitted} → m′ ≡ l → (m : SettledTo live runs undo room c us ws sent r₀) → (c .uncommitted ≡ 0) ⊎ (multiRow live (liveWidth * c .first) ≡ true) → front (λ (u : Uncommitted). not (multi (u .first))) (m .left) ≡ false
       go l e m s = by (m .left) (m .work) s
         where
-          by : (x : List Uncommitted) → Work live runs undo room c (m .gone) x ws (sent ++ m .more) r₀ → (c .uncommitted ≡ 0) ⊎ (multiRow live (28 * c .first) ≡ true) → front (λ (u : Uncommitted). not (multi (u .first))) x ≡ false
+          by : (x : List Uncommitted) → Work live runs undo room c (m .gone) x ws (sent ++ m .more) r₀ → (c .uncommitted ≡ 0) ⊎ (multiRow live (liveWidth * c .first) ≡ true) → front (λ (u : Uncommitted). not (multi (u .first))) x ≡ false
           by [] w s = refl
           by (u ∷ x) w (inl z) = absurd (omega (arith, w .uncommitted, z))
           by (u ∷ x) w (inr z) = ap not (sym (front-row live runs undo room c (m .gone) u x ws (sent ++ m .more) r₀ w) ∙ z)
@@ -291,8 +295,8 @@ unfolding settled
 fronted-none live runs room c z undo gone [] ws sent room₀ w k h = subst (λ (x : List Answer). Work live runs undo room c gone [] ws x room₀) (sym (append-nil sent)) w
 fronted-none live runs room c z undo gone (u ∷ us) ws sent room₀ w k h = absurd (omega (arith, w .uncommitted, z))
 
-pub fronted-some : (live runs room runs′ room′ : List ℕ) (c c′ : Counts) (number a : ℕ) → Fair c → 0 < c .uncommitted → number ≡ getD live (28 * c .first) 0 → a ≡ pick (holdsRow runs) (c .answers + 1) (c .answers)
-    → room′ ≡ pick (holdsRow runs) (sets room (16 * c .answers) (heldRow runs number)) room → runs′ ≡ sets runs 0 (sentRow runs) → c′ ≡ withAnswers a c → Fronted live runs room c runs′ room′ c′
+pub fronted-some : (live runs room runs′ room′ : List ℕ) (c c′ : Counts) (number a : ℕ) → Fair c → 0 < c .uncommitted → number ≡ getD live (liveWidth * c .first) 0 → a ≡ pick (holdsRow runs 0) (c .answers + 1) (c .answers)
+    → room′ ≡ pick (holdsRow runs 0) (sets room (answerWords * c .answers) (heldRow runs 0 number 0)) room → runs′ ≡ sets runs 0 (sentRow runs 0) → c′ ≡ withAnswers a c → Fronted live runs room c runs′ room′ c′
 fronted-some live runs room runs′ room′ c c′ number a fair some en ea er eu ec undo gone [] ws sent room₀ w k h = absurd (omega (arith, w .uncommitted))
 fronted-some live runs room runs′ room′ c c′ number a fair some en ea er eu ec undo gone (u ∷ us) ws sent room₀ w k h =
     fronted live runs undo room runs′ undo room′ c c c′ number a fair some en ea er eu ec gone u us ws sent room₀ w k (not-false (multi (u .first)) h)

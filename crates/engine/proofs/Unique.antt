@@ -4,10 +4,10 @@ use mathlib.Core.Path.{_≡_, refl, sym, _∙_}
 use mathlib.Core.List.{List}
 use Rattle.model.proofs.Unique.{Unique}
 use Rattle.engine.specs.declared.Called.{Called}
-use Rattle.engine.specs.declared.Turned.{Turned}
-use Rattle.engine.specs.Called.{turned}
-use Rattle.engine.proofs.turn.Kinds as turn-kinds
-use Rattle.engine.proofs.turn.Reads as turn
+use Rattle.engine.specs.declared.LentCall.{LentCall}
+use Rattle.engine.specs.Called.{lentCall}
+use Rattle.engine.proofs.call_lent.Kinds as call-lent-kinds
+use Rattle.engine.proofs.call_lent.Reads as call-lent
 use Rattle.engine.proofs.call_by.Kinds as call-by-kinds
 use Rattle.engine.proofs.call_by.Reads as call-by
 use Rattle.engine.proofs.call.Kinds as call-kinds
@@ -15,8 +15,8 @@ use Rattle.engine.proofs.call.Reads as call
 use Rattle.engine.proofs.start.Kinds as start-kinds
 use Rattle.engine.proofs.start.Reads as start
 
--- what `turn` returns and the lent rows are together one record's parts
-parts : (n : ℕ) (all : Called) (d d′ : Turned) (live live′ runs runs′ undo undo′ : List ℕ) → turned n d live runs undo ≡ all → turned n d′ live′ runs′ undo′ ≡ all
+-- what `call_lent` returns and the lent rows are together one record's parts
+parts : (n : ℕ) (all : Called) (d d′ : LentCall) (live live′ runs runs′ undo undo′ : List ℕ) → lentCall n d live runs undo ≡ all → lentCall n d′ live′ runs′ undo′ ≡ all
     → (d ≡ d′) × (live ≡ live′) × (runs ≡ runs′) × (undo ≡ undo′)
 parts n all d d′ live live′ runs runs′ undo undo′ p q =
     let s = p ∙ sym q in (
@@ -26,8 +26,8 @@ parts n all d d′ live live′ runs runs′ undo undo′ p q =
       (λ i. s i .next .undo),
     )
 
-pub turn-unique : Unique turn-kinds.ps turn-kinds.r turn.Learnt
-turn-unique κs a z z′ ws ws′ p q =
+pub call-lent-unique : Unique call-lent-kinds.ps call-lent-kinds.r call-lent.Learnt
+call-lent-unique κs a z z′ ws ws′ p q =
     let v = ws .1 .1 .1 .1 .1 in
     let v′ = ws′ .1 .1 .1 .1 .1 in
     let x = parts (a .1 .0) _ z z′ (v .0) (v′ .0) (v .1 .0) (v′ .1 .0) (v .1 .1 .0) (v′ .1 .1 .0) (p .0) (q .0) in

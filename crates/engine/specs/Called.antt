@@ -13,7 +13,7 @@ use Rattle.record.specs.Words.{pack}
 use Rattle.record.specs.View.{view}
 use Rattle.engine.specs.declared.Called.{Called}
 use Rattle.engine.specs.declared.Fresh.{Fresh}
-use Rattle.engine.specs.declared.Turned.{Turned}
+use Rattle.engine.specs.declared.LentCall.{LentCall}
 
 unfoldable pub stepped : Scheme → Record → Event → Cells → List ℕ → Stepped
 stepped σ r v cells room = step (view r) (callOf σ v cells room)
@@ -40,8 +40,8 @@ abbrev pub recordBy : ℕ → ℕ → ℕ → ℕ → List ℕ → List ℕ → 
 recordBy count largest uncommitted waiting live runs undo =
     record { count = count; largest = largest; uncommitted = uncommitted; waiting = waiting; live = live; runs = runs; undo = undo }
 
-abbrev pub turned : ℕ → Turned → List ℕ → List ℕ → List ℕ → Called
-turned count d live runs undo = record { number = d .number; answers = d .answers; next = recordBy count (d .largest) (d .uncommitted) (d .waiting) live runs undo }
+abbrev pub lentCall : ℕ → LentCall → List ℕ → List ℕ → List ℕ → Called
+lentCall count d live runs undo = record { number = d .number; answers = d .answers; next = recordBy count (d .largest) (d .uncommitted) (d .waiting) live runs undo }
 
 -- starting
 unfoldable pub freshOf : ℕ → Fresh

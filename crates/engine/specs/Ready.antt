@@ -8,10 +8,10 @@ use Rattle.model.specs.Operations.{Cells, pick}
 use Rattle.model.specs.Transactions.{Engine}
 use Rattle.model.specs.declared.Event.{Event}
 use Rattle.model.specs.declared.Scheme.{Scheme}
-use Rattle.model.proofs.Passing.{Passed}
 use Rattle.refusals.specs.Rest.{callOf}
 use Rattle.engine.specs.Work.{Work}
-use Rattle.engine.specs.declared.queues.Counts.{Counts}
+use Rattle.engine.specs.declared.counts.Counts.{Counts}
+use Rattle.model.specs.Parts.{Passed}
 
 pub record Ready (σ : Scheme) (live runs undo room : List ℕ) (cells : Cells) (c : Counts) (v : Event) (e : Engine) : Type 0 where
   pub work : Work live runs undo room c [] (e .uncommitted) (e .waiting) [] room

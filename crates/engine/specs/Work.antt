@@ -6,7 +6,7 @@ use mathlib.Core.List.{List, [], _∷_, _++_, map}
 use lib.Dec.{ltb, leb, eqb}
 use lib.ListN.{length, getD, replicate}
 use lib.Seq.{sets}
-use Rattle.model.specs.Limits.{leastRoom}
+use Rattle.model.specs.Limits.{leastRoom, answerWords}
 use Rattle.model.specs.Operations.{Cells, Outcome, multi, pick}
 use Rattle.record.specs.View.{numbersFrom}
 use Rattle.model.specs.Transactions.{Uncommitted, Waiting, Answer, answer, undoList, filled, front}
@@ -18,43 +18,11 @@ use Rattle.operations.specs.Laid.{padded, flat}
 use Rattle.operations.specs.declared.Ran.{Ran}
 use Rattle.record.specs.Words.{allRows, allRuns, liveRows}
 use Rattle.record.specs.View.{fragmentAt}
-use Rattle.record.proofs.Back.{Eight, Known}
-use Rattle.model.proofs.Chain.{All}
-use Rattle.model.proofs.Sound.{Sound}
-use Rattle.engine.specs.declared.queues.Counts.{Counts}
-
--- the words of an answer and of a run, with the eight numbers as a row
-abbrev pub answerRow : ℕ → ℕ → ℕ → ℕ → List ℕ → List ℕ
-answerRow n d p c ns = n ∷ d ∷ p ∷ c ∷ ns ++ (0 ∷ 0 ∷ 0 ∷ 0 ∷ [])
-
-abbrev pub runRow : ℕ → ℕ → ℕ → ℕ → ℕ → ℕ → List ℕ → List ℕ
-runRow r s a e p c ns = r ∷ s ∷ a ∷ e ∷ p ∷ c ∷ ns ++ (0 ∷ 0 ∷ [])
-
--- the word of the state after a fragment
-abbrev pub stateWordAfter : Bool → ℕ → ℕ
-stateWordAfter last place = pick (eqb place 0) (pick last 1 0) 2
-
--- the run of one that ran its first fragment: its answer held or sent
-abbrev pub begunRow : Bool → Bool → Ran → List ℕ
-begunRow held last r =
-    pick held (runRow 1 (stateWordAfter last (r .place)) 1 (r .entries) (r .place) (r .count) (r .numbers))
-    (runRow 1 (stateWordAfter last (r .place)) 0 (r .entries) 0 0 (replicate 8 0))
-
--- a live transaction's row at place b: a single's, or with coordinator k; its number if it is a multi's, else d
-abbrev pub sameRow : List ℕ → ℕ → ℕ → Bool
-sameRow l b k = pick (eqb (getD l (b + 1) 0 % 2) 1) (eqb (getD l (b + 2) 0) k) true
-
-abbrev pub nearRow : List ℕ → ℕ → ℕ → ℕ
-nearRow l b d = pick (eqb (getD l (b + 1) 0 % 2) 1) (getD l b 0) d
-
--- the same of n rows from place b on
-unfoldable pub oneRows : List ℕ → ℕ → ℕ → ℕ → Bool
-oneRows l b zero k = true
-oneRows l b (suc n) k = sameRow l b k && oneRows l (b + 28) n k
-
-unfoldable pub nearRows : ℕ → List ℕ → ℕ → ℕ → ℕ
-nearRows d l b zero = d
-nearRows d l b (suc n) = nearRows (nearRow l b d) l (b + 28) n
+use Rattle.engine.specs.declared.counts.Counts.{Counts}
+use Rattle.record.specs.Fitting.{Eight, Known}
+use Rattle.model.specs.Parts.{All, Sound}
+use Rattle.record.specs.Widths.{liveWidth, runWidth, liveLength, runsLength, undoLength}
+use Rattle.rows.specs.Rows.{answerRow}
 
 -- counts that fit: what keeps the arithmetic of a call in bounds
 pub record Small (c : Counts) : Type 0 where
@@ -65,9 +33,9 @@ pub record Small (c : Counts) : Type 0 where
 
 -- the rows hold the transactions that are gone in this call, the uncommitted ones and the waiting ones; the room the answers so far
 pub record Work (live runs undo room : List ℕ) (c : Counts) (gone : List Waiting) (us : List Uncommitted) (ws : List Waiting) (sent : List Answer) (room₀ : List ℕ) : Type 0 where
-  pub at-live : live ≡ padded 1792 (allRows (gone ++ liveRows us ws))
-  pub at-runs : runs ≡ padded 256 (allRuns us)
-  pub at-undo : undo ≡ padded 368 (flat (undoList us))
+  pub at-live : live ≡ padded liveLength (allRows (gone ++ liveRows us ws))
+  pub at-runs : runs ≡ padded runsLength (allRuns us)
+  pub at-undo : undo ≡ padded undoLength (flat (undoList us))
   pub at-room : room ≡ filled sent room₀
   pub first : length gone ≡ c .first
   pub uncommitted : length us ≡ c .uncommitted
@@ -77,16 +45,9 @@ pub record Work (live runs undo room : List ℕ) (c : Counts) (gone : List Waiti
   pub eights : All Eight (gone ++ liveRows us ws)
   pub enough : leastRoom ≤ length room₀
 
--- what one turn of the drain decides: is the one that ran answered now, does it join the uncommitted ones
-abbrev pub answeredNow : ℕ → Bool → Bool → Bool
-answeredNow u m one = eqb u 0 || (m && one)
-
-abbrev pub joinsQueue : ℕ → Bool → Bool
-joinsQueue u m = not (eqb u 0) || m
-
 -- one answer more in the room
-abbrev pub answered : ℕ → ℕ → ℕ → Ran → List ℕ → List ℕ
-answered a n d r room = sets room (16 * a) (answerRow n d (r .place) (r .count) (r .numbers))
+abbrev pub withAnswer : ℕ → ℕ → ℕ → Ran → List ℕ → List ℕ
+withAnswer a n d r room = sets room (answerWords * a) (answerRow n d (r .place) (r .count) (r .numbers))
 
 -- the counts after one that ran has joined, and after one that settled at once
 abbrev pub joinedWith : Counts → ℕ → Counts
@@ -117,22 +78,13 @@ pub record Left (live runs undo room : List ℕ) (c : Counts) (cells : Cells) (s
   pub work : Work live runs undo room c gone (q .uncommitted) (q .waiting) (sent ++ q .answers) room₀
   pub stands : cells ≡ q .cells
 
--- a turn of the drain, whatever lists the rows hold
-abbrev pub Turned : List ℕ → List ℕ → List ℕ → List ℕ → Cells → Counts → List ℕ → List ℕ → List ℕ → Cells → Counts → Type 0
-Turned live runs undo room cells c runs′ undo′ room′ cells′ c′ =
+-- the drain took the first waiting one, whatever lists the rows hold
+abbrev pub Took : List ℕ → List ℕ → List ℕ → List ℕ → Cells → Counts → List ℕ → List ℕ → List ℕ → Cells → Counts → Type 0
+Took live runs undo room cells c runs′ undo′ room′ cells′ c′ =
     (gone : List Waiting) (us : List Uncommitted) (w : Waiting) (ws : List Waiting) (sent : List Answer) (room₀ : List ℕ) → Work live runs undo room c gone us (w ∷ ws) sent room₀
     → (ct top : ℕ) → Sound ct top us (w ∷ ws) → (σ : Scheme) → mayTake σ us ≡ true
     → Left live runs′ undo′ room′ c′ cells′ sent room₀
     (record { cells = run (w .fragment) cells [] .cells; uncommitted = placed us w (run (w .fragment) cells []) .uncommitted; waiting = ws; answers = placed us w (run (w .fragment) cells []) .answers })
-
-abbrev pub blocking : Scheme → Bool
-blocking Speculation = false
-blocking Blocking = true
-
--- may the drain go on: nothing is uncommitted, or the scheme does not block, fewer than 16 are and the word of the last one's state says that it is
--- finished
-abbrev pub mayTakeRow : Scheme → List ℕ → ℕ → Bool
-mayTakeRow σ runs u = pick (blocking σ) (eqb u 0) (pick (eqb u 0) true (pick (leb 16 u) false (pick (eqb (getD runs (16 * (u - 1) + 1) 0) 1) true (eqb (getD runs (16 * (u - 1) + 1) 0) 2))))
 
 -- a whole drain
 abbrev pub Drained : Scheme → List ℕ → List ℕ → List ℕ → List ℕ → Cells → Counts → List ℕ → List ℕ → List ℕ → Cells → Counts → Type 0
@@ -147,13 +99,6 @@ pub record Fair (c : Counts) : Type 0 where
   pub depth : c .uncommitted ≤ 16
   pub entries : c .entries ≤ 184
 
--- the answer that the first run holds, as words: none where its reply word is not 1
-abbrev pub holdsRow : List ℕ → Bool
-holdsRow runs = eqb (getD runs 2 0) 1
-
-abbrev pub heldRow : List ℕ → ℕ → List ℕ
-heldRow runs n = n ∷ 0 ∷ numbersFrom runs 4 10 ++ (0 ∷ 0 ∷ 0 ∷ 0 ∷ [])
-
 -- the first of the queue leaves it, whatever lists the rows hold
 abbrev pub Dropped : List ℕ → List ℕ → Counts → List ℕ → List ℕ → Counts → Type 0
 Dropped runs undo c runs′ undo′ c′ =
@@ -165,9 +110,6 @@ abbrev pub SettledOne : List ℕ → List ℕ → List ℕ → List ℕ → Coun
 SettledOne live runs undo room c runs′ undo′ room′ c′ =
     (gone : List Waiting) (u : Uncommitted) (us : List Uncommitted) (ws : List Waiting) (sent : List Answer) (room₀ : List ℕ) → Work live runs undo room c gone (u ∷ us) ws sent room₀
     → All Known (u ∷ us) → Work live runs′ undo′ room′ c′ (gone ++ (requeued u ∷ [])) us ws (sent ++ heldBy u) room₀
-
-abbrev pub multiRow : List ℕ → ℕ → Bool
-multiRow live b = eqb (getD live (b + 1) 0 % 2) 1
 
 -- some singles at the front have settled, and us′ with no single first is left
 pub record SettledTo (live runs undo room : List ℕ) (c : Counts) (us : List Uncommitted) (ws : List Waiting) (sent : List Answer) (room₀ : List ℕ) : Type 0 where
@@ -182,10 +124,6 @@ abbrev pub Singles : List ℕ → List ℕ → List ℕ → List ℕ → Counts 
 Singles live runs undo room c runs′ undo′ room′ c′ =
     (gone : List Waiting) (us : List Uncommitted) (ws : List Waiting) (sent : List Answer) (room₀ : List ℕ) → Work live runs undo room c gone us ws sent room₀ → All Known us
     → (s : SettledTo live runs′ undo′ room′ c′ us ws sent room₀) × (front (λ (u : Uncommitted). not (multi (u .first))) (s .left) ≡ false)
-
--- the words of the first run with its answer sent
-abbrev pub sentRow : List ℕ → List ℕ
-sentRow runs = runRow (getD runs 0 0) (getD runs 1 0) 0 (getD runs 3 0) 0 0 (replicate 8 0)
 
 abbrev pub Fronted : List ℕ → List ℕ → List ℕ → Counts → List ℕ → List ℕ → Counts → Type 0
 Fronted live runs room c runs′ room′ c′ =

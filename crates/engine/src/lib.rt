@@ -1,4 +1,5 @@
 // The engine of one partition: `start`, `call` by speculation, and `call_by` a scheme.
+ghost use Rattle.record.specs.Widths.{liveWidth};
 ghost use mathlib.Core.Path.{_≡_};
 ghost use mathlib.Core.List.{List, [], _∷_};
 ghost use Prim.Native.Nat.{ℕ, _+_, _*_, _≤_};
@@ -13,22 +14,27 @@ ghost use Rattle.record.specs.Words.{rowWords, pack};
 ghost use Rattle.record.specs.View.{viewOf};
 ghost use Rattle.refusals.specs.Rest.{callOf};
 ghost use Rattle.engine.specs.Work.{Left, waitingMore};
-ghost use Rattle.engine.specs.Called.{called, cellsAfter, roomAfter, freshOf, recordBy, turned};
+ghost use Rattle.engine.specs.Called.{called, cellsAfter, roomAfter, freshOf, recordBy, lentCall};
 ghost use Rattle.engine.specs.Ready.{Ready, largestBy};
-use crate::queues::Counts;
+use crate::counts::Counts;
 use model::Event;
 use model::Fragment;
 use model::Scheme;
 use record::Record;
 
-mod queues;
+mod abort;
+mod answers;
+mod counts;
+mod drain;
+mod front;
+mod settle;
 
 // The record's three rows, by name.
-pub type Live = [u32; 1792];
+pub type Live = [u32; record::LIVE_LENGTH];
 
-pub type Runs = [u32; 256];
+pub type Runs = [u32; record::RUNS_LENGTH];
 
-pub type Undone = [u32; 368];
+pub type Undone = [u32; record::UNDO_LENGTH];
 
 // What a call returns: the number, the count of answers, and the next record.
 pub struct Called {
@@ -38,7 +44,7 @@ pub struct Called {
 }
 
 // What a call on lent rows returns: the number, the count of answers, and the next record's counts.
-pub struct Turned {
+pub struct LentCall {
     pub number: u32,
     pub answers: u32,
     pub largest: u32,
@@ -89,10 +95,15 @@ pub(crate) fn refused(
 pub(crate) fn join_waiting(live: &mut [u32], c: Counts, number: u32, f: Fragment) -> Counts
     requires { ⌜ c .first + c .uncommitted + c .waiting ≤ 64 ⌝ }
     ensures { λ d. ⌜ d ≡ waitingMore c ⌝ }
-    ensures { λ d. ⌜ now (live .exit) ≡ sets (now (live .entry)) (28 * (c .first + c .uncommitted + c .waiting)) (rowWords number f) ⌝ }
+    ensures { λ d. ⌜ now (live .exit) ≡ sets (now (live .entry)) (liveWidth * (c .first + c .uncommitted + c .waiting)) (rowWords number f) ⌝ }
 {
     let w = record::row_words(number, f);
-    record::lay(live, 28 * (c.first + c.uncommitted + c.waiting), &w, 28);
+    record::lay(
+        live,
+        record::LIVE_WIDTH * (c.first + c.uncommitted + c.waiting),
+        &w,
+        record::LIVE_WIDTH,
+    );
     c.waits()
 }
 
@@ -115,11 +126,11 @@ pub(crate) fn accept_fragment(
     let number = event.number;
     let f = event.fragment;
     if refusals::is_front(c.uncommitted, live, number) {
-        let d = queues::continue_front(live, runs, undo, cells, room, c, f);
-        return queues::drain(scheme, live, runs, undo, cells, room, d);
+        let d = front::continue_front(live, runs, undo, cells, room, c, f);
+        return drain::drain(scheme, live, runs, undo, cells, room, d);
     }
     let d = join_waiting(live, c, number, f);
-    queues::drain(scheme, live, runs, undo, cells, room, d)
+    drain::drain(scheme, live, runs, undo, cells, room, d)
 }
 
 // An accepted commit.
@@ -138,8 +149,8 @@ pub(crate) fn accept_commit(
     ensures { λ d. ⌜ ((e : Engine) → Ready scheme (now (live .entry)) (now (runs .entry)) (now (undo .entry)) (now (room .entry)) (now (cells .entry)) c event e → Left (now (live .entry)) (now (runs .exit)) (now (undo .exit)) (now (room .exit)) d (now (cells .exit)) [] (now (room .entry)) (taken scheme (request event) e (now (cells .entry)))) ⌝ }
     ensures { λ d. ⌜ d .first + d .uncommitted + d .waiting ≤ 64 ⌝ }
 {
-    let d = queues::commit(live, runs, undo, room, c);
-    queues::drain(scheme, live, runs, undo, cells, room, d)
+    let d = settle::commit(live, runs, undo, room, c);
+    drain::drain(scheme, live, runs, undo, cells, room, d)
 }
 
 // An accepted abort.
@@ -158,8 +169,8 @@ pub(crate) fn accept_abort(
     ensures { λ d. ⌜ ((e : Engine) → Ready scheme (now (live .entry)) (now (runs .entry)) (now (undo .entry)) (now (room .entry)) (now (cells .entry)) c event e → Left (now (live .entry)) (now (runs .exit)) (now (undo .exit)) (now (room .exit)) d (now (cells .exit)) [] (now (room .entry)) (taken scheme (request event) e (now (cells .entry)))) ⌝ }
     ensures { λ d. ⌜ d .first + d .uncommitted + d .waiting ≤ 64 ⌝ }
 {
-    let d = queues::abort(runs, undo, cells, c);
-    queues::drain(scheme, live, runs, undo, cells, room, d)
+    let d = abort::abort(runs, undo, cells, c);
+    drain::drain(scheme, live, runs, undo, cells, room, d)
 }
 
 // An accepted event: its step, and the drain.
@@ -198,7 +209,7 @@ pub(crate) fn largest_after(kind: u32, number: u32, largest: u32) -> u32
 }
 
 // A call on a record whose rows are lent: refused with nothing touched, or carried out where the rows stand.
-pub fn turn(
+pub fn call_lent(
     scheme: Scheme,
     count: u32,
     largest: u32,
@@ -210,8 +221,8 @@ pub fn turn(
     cells: &mut [u32],
     event: Event,
     room: &mut [u32],
-) -> Turned
-    ensures { λ d. ⌜ turned count d (now (live .exit)) (now (runs .exit)) (now (undo .exit)) ≡ called scheme (recordBy count largest uncommitted waiting (now (live .entry)) (now (runs .entry)) (now (undo .entry))) event (now (cells .entry)) (now (room .entry)) ⌝ }
+) -> LentCall
+    ensures { λ d. ⌜ lentCall count d (now (live .exit)) (now (runs .exit)) (now (undo .exit)) ≡ called scheme (recordBy count largest uncommitted waiting (now (live .entry)) (now (runs .entry)) (now (undo .entry))) event (now (cells .entry)) (now (room .entry)) ⌝ }
     ensures { λ d. ⌜ now (cells .exit) ≡ cellsAfter scheme (recordBy count largest uncommitted waiting (now (live .entry)) (now (runs .entry)) (now (undo .entry))) event (now (cells .entry)) (now (room .entry)) ⌝ }
     ensures { λ d. ⌜ now (room .exit) ≡ roomAfter scheme (recordBy count largest uncommitted waiting (now (live .entry)) (now (runs .entry)) (now (undo .entry))) event (now (cells .entry)) (now (room .entry)) ⌝ }
 {
@@ -228,7 +239,7 @@ pub fn turn(
         event,
     );
     if number != 0 {
-        return Turned {
+        return LentCall {
             number: number,
             answers: 0,
             largest: largest,
@@ -247,10 +258,10 @@ pub fn turn(
     let d = accept(scheme, live, runs, undo, cells, room, c, event);
     record::shift(
         live,
-        28 * d.first,
-        28 * (d.first + d.uncommitted + d.waiting),
+        record::LIVE_WIDTH * d.first,
+        record::LIVE_WIDTH * (d.first + d.uncommitted + d.waiting),
     );
-    Turned {
+    LentCall {
         number: 0,
         answers: d.answers,
         largest: largest_after(event.kind, event.number, largest),
@@ -275,7 +286,7 @@ pub fn call_by(
     let mut live = r.live;
     let mut runs = r.runs;
     let mut undo = r.undo;
-    let t = turn(
+    let t = call_lent(
         scheme,
         r.count,
         r.largest,
@@ -322,9 +333,9 @@ pub(crate) fn empty(count: u32) -> Record
         largest: 0,
         uncommitted: 0,
         waiting: 0,
-        live: [0u32; 1792],
-        runs: [0u32; 256],
-        undo: [0u32; 368],
+        live: [0u32; record::LIVE_LENGTH],
+        runs: [0u32; record::RUNS_LENGTH],
+        undo: [0u32; record::UNDO_LENGTH],
     }
 }
 

@@ -17,7 +17,7 @@ use Rattle.engine.specs.Called.{called, stepped, roomAfter}
 use Rattle.trace.specs.Format.{eventAt}
 use Rattle.trace.specs.Text.{lineE, lineA}
 use Rattle.trace.proofs.Lines.{length-e, length-a}
-use Rattle.listing.specs.Played.{Kept, taken}
+use Rattle.listing.specs.Played.{Playing, playedOne}
 use Rattle.listing.specs.Printed.{Lines, linesFrom, answerLines, eventLines, eventsLines, together, mostOfEvent}
 use Rattle.listing.proofs.Texts.{together-append}
 
@@ -40,12 +40,12 @@ unfolding eventLines together
 length-event position number answers room =
     omega (arith, length-append (lineE position number) (together (answerLines room answers)), length-e position number, length-lines (lineA room) 134 (length-a room) 0 answers)
 
-pub length-events : (σ : Scheme) (bytes : List ℕ) (position b n : ℕ) (k : Kept) → length (together (eventsLines σ bytes position b n k)) ≤ mostOfEvent * n
+pub length-events : (σ : Scheme) (bytes : List ℕ) (position b n : ℕ) (k : Playing) → length (together (eventsLines σ bytes position b n k)) ≤ mostOfEvent * n
 unfolding eventsLines together
 length-events σ bytes position b zero k = omega arith
 length-events σ bytes position b (suc n) k =
     let v : Event = eventAt bytes b in
     let d = called σ (k .next) v (k .cells) (k .room) in
     let here : Lines = eventLines position (d .number) (d .answers) (roomAfter σ (k .next) v (k .cells) (k .room)) in
-    let rest : Lines = eventsLines σ bytes (position + 1) (b + 29) n (taken σ v k) in
-    omega (arith, ap length (together-append here rest), length-append (together here) (together rest), length-event position (d .number) (d .answers) (roomAfter σ (k .next) v (k .cells) (k .room)), few-answers σ (k .next) v (k .cells) (k .room), length-events σ bytes (position + 1) (b + 29) n (taken σ v k))
+    let rest : Lines = eventsLines σ bytes (position + 1) (b + 29) n (playedOne σ v k) in
+    omega (arith, ap length (together-append here rest), length-append (together here) (together rest), length-event position (d .number) (d .answers) (roomAfter σ (k .next) v (k .cells) (k .room)), few-answers σ (k .next) v (k .cells) (k .room), length-events σ bytes (position + 1) (b + 29) n (playedOne σ v k))

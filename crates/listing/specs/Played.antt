@@ -10,23 +10,23 @@ use Rattle.engine.specs.Called.{called, cellsAfter, roomAfter, freshOf}
 use Rattle.trace.specs.Format.{wordsFrom, eventAt}
 
 -- what is kept from event to event
-pub record Kept : Type 0 where
+pub record Playing : Type 0 where
   pub next : Record
   pub cells : Cells
   pub room : List ℕ
 
-abbrev pub kept : Record → Cells → List ℕ → Kept
-kept r cells room = record { next = r; cells = cells; room = room }
+abbrev pub playing : Record → Cells → List ℕ → Playing
+playing r cells room = record { next = r; cells = cells; room = room }
 
 -- one event, by a scheme
-unfoldable pub taken : Scheme → Event → Kept → Kept
-taken σ v k = kept (called σ (k .next) v (k .cells) (k .room) .next) (cellsAfter σ (k .next) v (k .cells) (k .room)) (roomAfter σ (k .next) v (k .cells) (k .room))
+unfoldable pub playedOne : Scheme → Event → Playing → Playing
+playedOne σ v k = playing (called σ (k .next) v (k .cells) (k .room) .next) (cellsAfter σ (k .next) v (k .cells) (k .room)) (roomAfter σ (k .next) v (k .cells) (k .room))
 
 -- n events in order, the first at word b
-unfoldable pub played : Scheme → List ℕ → ℕ → ℕ → Kept → Kept
+unfoldable pub played : Scheme → List ℕ → ℕ → ℕ → Playing → Playing
 played σ bytes b zero k = k
-played σ bytes b (suc n) k = played σ bytes (b + 29) n (taken σ (eventAt bytes b) k)
+played σ bytes b (suc n) k = played σ bytes (b + 29) n (playedOne σ (eventAt bytes b) k)
 
 -- "copies the trace's numbers over them", and starts
-unfoldable pub begun : List ℕ → ℕ → Cells → List ℕ → Kept
-begun bytes count cells room = kept (freshOf count .next) (sets cells 0 (wordsFrom bytes 4 count)) room
+unfoldable pub startedTrace : List ℕ → ℕ → Cells → List ℕ → Playing
+startedTrace bytes count cells room = playing (freshOf count .next) (sets cells 0 (wordsFrom bytes 4 count)) room

@@ -15,7 +15,7 @@ use Rattle.trace.specs.Text.{lineE, lineA, lineC, badTrace, badScheme}
 use Rattle.listing.specs.declared.Choice.{Choice}
 use Rattle.listing.specs.declared.Choice.the-variants.{By, Unknown}
 use Rattle.listing.specs.Chosen.{schemeOf}
-use Rattle.listing.specs.Played.{Kept, taken, played, begun}
+use Rattle.listing.specs.Played.{Playing, playedOne, played, startedTrace}
 
 abbrev pub Lines : Type 0
 Lines = List (List ℕ)
@@ -34,12 +34,12 @@ unfoldable pub eventLines : ℕ → ℕ → ℕ → List ℕ → Lines
 eventLines position number answers room = lineE position number ∷ answerLines room answers
 
 -- n events in order, the first at word b, the line of which has this position
-unfoldable pub eventsLines : Scheme → List ℕ → ℕ → ℕ → ℕ → Kept → Lines
+unfoldable pub eventsLines : Scheme → List ℕ → ℕ → ℕ → ℕ → Playing → Lines
 eventsLines σ bytes position b zero k = []
 eventsLines σ bytes position b (suc n) k =
     let v = eventAt bytes b in
     let d = called σ (k .next) v (k .cells) (k .room) in
-    eventLines position (d .number) (d .answers) (roomAfter σ (k .next) v (k .cells) (k .room)) ++ eventsLines σ bytes (position + 1) (b + 29) n (taken σ v k)
+    eventLines position (d .number) (d .answers) (roomAfter σ (k .next) v (k .cells) (k .room)) ++ eventsLines σ bytes (position + 1) (b + 29) n (playedOne σ v k)
 
 -- "and at the end `c` cell and content for each cell": the first n
 abbrev pub cellLines : Cells → ℕ → Lines
@@ -48,7 +48,7 @@ cellLines cells n = linesFrom (λ (i : ℕ). lineC i (getD cells i 0)) 0 n
 -- a trace of this many cells and events, the first event at word b, from these cells and this room
 unfoldable pub traceLines : Scheme → List ℕ → ℕ → ℕ → ℕ → Cells → List ℕ → Lines
 traceLines σ bytes count events b cells room =
-    let k = begun bytes count cells room in
+    let k = startedTrace bytes count cells room in
     eventsLines σ bytes 1 b events k ++ cellLines (played σ bytes b events k .cells) count
 
 -- "It starts from cells cleared to 0"; "Else it prints `bad trace` alone."

@@ -6,7 +6,7 @@ ghost use lib.ListN.{length, take, drop, replicate};
 ghost use lib.Seq.{sets};
 ghost use Rattle.trace.specs.Text.{lineE, lineA, lineC, badTrace, badScheme};
 ghost use Rattle.listing.specs.Chosen.{schemeOf};
-ghost use Rattle.listing.specs.Played.{kept, played};
+ghost use Rattle.listing.specs.Played.{playing, played};
 ghost use Rattle.listing.specs.Printed.{answerLines, eventLines, eventsLines, cellLines, traceLines, linesOf, together, listingOf, seen, Put};
 use model::Scheme;
 use record::Record;
@@ -151,8 +151,8 @@ pub(crate) fn put_events(
     buffer: &mut [u8],
 ) -> u32
     requires { ⌜ (first ≤ 4100) × (events ≤ 256) ⌝ }
-    ensures { λ r. ⌜ now (cells .exit) ≡ played scheme (now (bytes .entry)) first events (kept start (now (cells .entry)) (now (room .entry))) .cells ⌝ }
-    ensures { λ r. ⌜ Put from (now (buffer .entry)) (now (buffer .exit)) 0 r (together (eventsLines scheme (now (bytes .entry)) 1 first events (kept start (now (cells .entry)) (now (room .entry))))) ⌝ }
+    ensures { λ r. ⌜ now (cells .exit) ≡ played scheme (now (bytes .entry)) first events (playing start (now (cells .entry)) (now (room .entry))) .cells ⌝ }
+    ensures { λ r. ⌜ Put from (now (buffer .entry)) (now (buffer .exit)) 0 r (together (eventsLines scheme (now (bytes .entry)) 1 first events (playing start (now (cells .entry)) (now (room .entry))))) ⌝ }
 {
     let mut record = start;
     let mut p: u32 = 0;

@@ -12,7 +12,8 @@ use Rattle.model.specs.declared.Fragment.{Fragment}
 use Rattle.model.specs.declared.Scheme.{Scheme}
 use Rattle.model.specs.declared.Scheme.the-variants.{Blocking}
 use Rattle.model.proofs.Branches.{placed-idle, settled-cases, held-cases}
-use Rattle.model.proofs.Chain.{All, all-append}
+use Rattle.model.proofs.Chain.{all-append}
+use Rattle.model.specs.Parts.{All}
 
 abbrev pub Independent : Answer → Type 0
 Independent a = a .dependence ≡ 0

@@ -18,6 +18,7 @@ use Rattle.model.specs.declared.Fragment.{Fragment}
 use Rattle.model.specs.declared.Undo.{Undo}
 use Rattle.model.proofs.Undoing.{Agree, run-agrees, undone-append, Placed, trial-placed}
 use Rattle.model.proofs.Logs.{Closed, settled-append, live-append}
+use Rattle.model.specs.Parts.{All}
 
 -- what the log has of a waiting one, and of an uncommitted one whose fragments after the first are fs
 abbrev pub asTx : Waiting → Tx
@@ -96,10 +97,6 @@ InPast n P = (t : Tx) × List·Memᴰ t P × (t .number ≡ n)
 -- either it still pends, or D was decided
 abbrev pub Followed : ℕ → Log → Cells → List Fragment → List Uncommitted → Answer → Type 0
 Followed k P b fs us a = (a .dependence ≡ 0 → ⊥) → Pend k b fs us a ⊎ InPast (a .dependence) P
-
-abbrev pub All : {A : Type 0} → (A → Type 0) → List A → Type 0
-All P [] = Unit {0}
-All P (a ∷ l) = P a × All P l
 
 pub all-map : {A : Type 0} (P Q : A → Type 0) → ((a : A) → P a → Q a) → (l : List A) → All P l → All Q l
 all-map P Q f [] h = tt

@@ -15,18 +15,19 @@ use Rattle.model.specs.Transactions.{front, Uncommitted, Waiting, Answer
 use Rattle.model.specs.Steps.{Queues, joined, continued, arrived}
 use Rattle.model.specs.Refusals.{Request, Arrive, Commit, Abort, request, Call, live, new, isFront, refusal, taken, largestAfter, respond, step, Started, start, empty}
 use Rattle.model.specs.Serial.{Tx, Decision, Open, Committed, Aborted, attempt, effect, serial}
-use Rattle.model.specs.Demand.{SettlingOrder, QueueOrder, numbersOf, Log, known, at, extended, decided, logged, noticed, kept, Run, onward, runs, fresh, Lends, AllLend, Standing, Settles, Gone, Undecided, standing, settledOf, liveOf, uncommittedOf, CellsHold, Gives, PlainRight, NoAbort, DependentRight, Demand3}
+use Rattle.model.specs.Demand.{SettlingOrder, QueueOrder, numbersOf, Log, isLogged, at, extended, decided, logged, noticed, kept, Run, onward, runs, fresh, Lends, AllLend, Standing, Settles, Gone, Undecided, standing, settledOf, liveOf, uncommittedTx, CellsHold, Gives, PlainRight, NoAbort, DependentRight, Demand3}
 use Rattle.model.specs.declared.Event.{Event}
 use Rattle.model.specs.declared.Fragment.{Fragment}
 use Rattle.model.specs.declared.Scheme.{Scheme}
 use Rattle.model.proofs.Logs.{InOrder, serial-append, rises-weaken, rises-settled, rises-at, gives-at, settled-append, live-append, known-new, known-at, Grows, grows-same}
-use Rattle.model.proofs.Chain.{nearestTx, pend-multi-leaves, asTx, txOf, lives, Pend, InPast, Followed, All, all-mem, Inv, chain-cells, lives-length, settled-is}
+use Rattle.model.proofs.Chain.{nearestTx, pend-multi-leaves, asTx, txOf, lives, Pend, InPast, Followed, all-mem, Inv, chain-cells, lives-length, settled-is}
 use Rattle.model.proofs.Draining.{Plain, nearest-low}
 use Rattle.model.proofs.Settling.{log-front, rises-log-front, Got, commit-inv, abort-inv, again-inv, new-inv, top-front, rises-front}
 use Rattle.model.specs.Schemes.{SinglesAnswered}
 use Rattle.model.proofs.Replying.{Singled, singled-none}
 use Rattle.model.proofs.Branches.{request-cases}
-use Rattle.model.proofs.Passing.{Passed, passed, took, front-or-new, and-if, decides-front}
+use Rattle.model.proofs.Passing.{passed, took, front-or-new, and-if, decides-front}
+use Rattle.model.specs.Parts.{All, Passed}
 
 -- Between two calls; as′: answers that depend and were sent since the last accepted abort
 pub record Whole (cs₀ : Cells) (r : Run) (as′ : List Answer) : Type 0 where
@@ -89,8 +90,8 @@ module _ (σ : Scheme) (cs₀ : Cells) (ct top : ℕ) (ws : List Waiting) (cs : 
       (sym (ap {B = ℕ} (λ (b : Bool). elim b [ true ↦ u .number | false ↦ top ]) (le-ltb top (u .number) (top-front cs₀ top l rises cs ws as′ u us i))))
       (again-inv σ cs₀ top l rises cs ws as′ u us i f nf)
     where
-      kn : known (u .number) l ≡ true
-      kn = ap (known (u .number)) (i .split) ∙ known-at top (txOf (i .more) u) (lives [] us ++ map asTx ws) 0 (i .past) (rises-front cs₀ top l rises cs ws as′ u us i)
+      kn : isLogged (u .number) l ≡ true
+      kn = ap (isLogged (u .number)) (i .split) ∙ known-at top (txOf (i .more) u) (lives [] us ++ map asTx ws) 0 (i .past) (rises-front cs₀ top l rises cs ws as′ u us i)
 
   accept-arrive : (us : List Uncommitted) (as′ : List Answer) (c : Call) → eqb (c .event .kind) 1 ≡ true → Inv cs₀ l cs us ws as′ → (us ≡ [] → ws ≡ []) → Passed (engineOf us) c
       → Got cs₀ l (logged (Arrive (c .event .number) (c .event .fragment)) l) (largestAfter (Arrive (c .event .number) (c .event .fragment)) (engineOf us)) as′

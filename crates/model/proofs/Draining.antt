@@ -21,7 +21,8 @@ use Rattle.model.proofs.Tests.{or-true}
 use Rattle.model.proofs.Branches.{placed-idle, placed-behind, drain-cases}
 use Rattle.model.proofs.Replying.{Singled, singled-none, singled-both, singled-multi, singled-settles}
 use Rattle.model.proofs.Logs.{InOrder, rises-weaken, rises-at, gives-at, Past, Closed, closed-snoc, past-settles}
-use Rattle.model.proofs.Chain.{nearestTx, nearest-lives, asTx, txOf, lives, Entry, Chain, ButLast, FrontMulti, Pend, InPast, Followed, All, all-map, all-append, Inv, chain-cells, chain-snoc, lives-snoc, ready-snoc, ready-tail, begun-agrees, begun-stands, begun-entry, settled-is, sent-is-not-held, held-inj, followed-idle, followed-snoc, in-past, none-pends}
+use Rattle.model.proofs.Chain.{nearestTx, nearest-lives, asTx, txOf, lives, Entry, Chain, ButLast, FrontMulti, Pend, InPast, Followed, all-map, all-append, Inv, chain-cells, chain-snoc, lives-snoc, ready-snoc, ready-tail, begun-agrees, begun-stands, begun-entry, settled-is, sent-is-not-held, held-inj, followed-idle, followed-snoc, in-past, none-pends}
+use Rattle.model.specs.Parts.{All}
 
 pub past-if : (s : Standing) → s ≡ Settles → Past s
 past-if s e = subst Past (sym e) tt

@@ -18,11 +18,11 @@ use Rattle.model.specs.declared.Fragment.{Fragment}
 use Rattle.model.specs.declared.Scheme.{Scheme}
 use Rattle.model.specs.declared.Undo.{Undo}
 use Rattle.model.specs.declared.Did.the-variants.{Number, Fails}
-use Rattle.model.proofs.Chain.{All, all-append}
+use Rattle.model.proofs.Chain.{all-append}
 use Rattle.model.proofs.Tests.{both, and-left, and-right, or-left, or-right, or-true, every-append}
 use Rattle.model.proofs.Taking.{may-less, may-finished}
 use Rattle.model.proofs.Branches.{placed-idle, placed-behind, settled-cases, drain-cases, held-cases}
-use Rattle.model.proofs.Sound.{cellInside, SoundOne, Stored, badFront, Sound}
+use Rattle.model.specs.Parts.{All, cellInside, SoundOne, Stored, badFront, Sound}
 
 -- What a run leaves
 

@@ -17,12 +17,12 @@ use Rattle.model.specs.Demand.{Run, onward, runs, fresh}
 use Rattle.model.specs.declared.Event.{Event}
 use Rattle.model.specs.declared.Fragment.{Fragment}
 use Rattle.model.specs.declared.Scheme.{Scheme}
-use Rattle.model.proofs.Chain.{All}
 use Rattle.model.proofs.Branches.{request-cases}
-use Rattle.model.proofs.Passing.{Passed, passed, took, front-or-new, and-if, decides-front}
+use Rattle.model.proofs.Passing.{passed, took, front-or-new, and-if, decides-front}
 use Rattle.model.proofs.Tests.{both, and-right, or-left}
-use Rattle.model.proofs.Sound.{SoundEngine, Sound, sound-parts, parts-sound}
+use Rattle.model.proofs.Sound.{sound-parts, parts-sound}
 use Rattle.model.proofs.Keeping.{Stays, joined-stays, continued-stays, committed-stays, aborted-stays, rises-weaken}
+use Rattle.model.specs.Parts.{All, Passed, SoundEngine, Sound}
 
 -- a fragment that was accepted could be stored
 pub arrives-storable : (e : Engine) (c : Call) → eqb (c .event .kind) 1 ≡ true → Passed e c → storable (e .count) (c .event .fragment) ≡ true

@@ -10,15 +10,16 @@ use Rattle.model.specs.Operations.{Cells, multi}
 use Rattle.model.specs.Transactions.{Uncommitted, Waiting, front}
 use Rattle.model.specs.Refusals.{Request, Arrive, request, isIn, Call, step}
 use Rattle.model.specs.Serial.{Tx, Decision, Open, Committed, Aborted}
-use Rattle.model.specs.Demand.{numbersOf, Log, known, at, extended, decided, logged, noticed, Run, onward, runs, fresh, AllLend, Standing, Settles, Gone, Undecided, settledOf, liveOf, wasAborted, settledBy, settledIn, Rises}
+use Rattle.model.specs.Demand.{numbersOf, Log, isLogged, at, extended, decided, logged, noticed, Run, onward, runs, fresh, AllLend, Standing, Settles, Gone, Undecided, settledOf, liveOf, wasAborted, settledBy, settledIn, Rises}
 use Rattle.model.specs.declared.Fragment.{Fragment}
 use Rattle.model.proofs.Logs.{InOrder, rises-settled}
-use Rattle.model.proofs.Chain.{asTx, txOf, lives, All, all-append, Inv}
+use Rattle.model.proofs.Chain.{asTx, txOf, lives, all-append, Inv}
 use Rattle.model.proofs.Draining.{rises-drop}
 use Rattle.model.proofs.Settling.{log-front}
 use Rattle.model.proofs.Branches.{request-cases}
-use Rattle.model.proofs.Passing.{Passed, passed, took, decides-front}
+use Rattle.model.proofs.Passing.{passed, took, decides-front}
 use Rattle.model.proofs.Demanded.{Whole, whole-queue, whole-next, fresh-whole, reached}
+use Rattle.model.specs.Parts.{All, Passed}
 
 -- No single of the log is decided
 
@@ -34,7 +35,7 @@ extended-own n f (t ∷ ts) h = go (eqb (t .number) n) (extended-own n f ts (h .
     go false k = (h .0, k)
 
 arrived-own : (n : ℕ) (f : Fragment) (l : Log) → All Own l → All Own (logged (Arrive n f) l)
-arrived-own n f l h = go (known n l)
+arrived-own n f l h = go (isLogged n l)
   where
     go : (b : Bool) → All Own (elim b as (λ _. Log) [ true ↦ at n (extended f) l | false ↦ l ++ (record { number = n; first = f; more = []; decision = Open } ∷ []) ])
     go true = extended-own n f l h

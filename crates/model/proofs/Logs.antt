@@ -9,7 +9,7 @@ use mathlib.Core.List.{List, [], _∷_, _++_, append-assoc, append-nil}
 use lib.Dec.{ltb, eqb}
 use Rattle.model.specs.Operations.{Cells, Outcome, told}
 use Rattle.model.specs.Serial.{Tx, Decision, Open, attempt, effect, serial}
-use Rattle.model.specs.Demand.{Rises, numbersOf, Log, known, at, Standing, Settles, Gone, Undecided, standing, settledOf, liveOf, before, Found, This, None, the, Gives}
+use Rattle.model.specs.Demand.{Rises, numbersOf, Log, isLogged, at, Standing, Settles, Gone, Undecided, standing, settledOf, liveOf, before, Found, This, None, the, Gives}
 
 -- the numbers of a log rise
 abbrev pub InOrder : ℕ → ℕ → Log → Type 0
@@ -40,18 +40,18 @@ pub rises-more : (n top : ℕ) (l : Log) (t : Tx) → top < t .number → InOrde
 rises-more n top [] t k h = (omega arith, omega arith)
 rises-more n top (p ∷ P) t k h = (h .0, rises-more (p .number) top P t k (h .1))
 
-pub known-new : (n top m : ℕ) (l : Log) → top < m → InOrder n top l → known m l ≡ false
+pub known-new : (n top m : ℕ) (l : Log) → top < m → InOrder n top l → isLogged m l ≡ false
 known-new n top m [] k h = refl
 known-new n top m (t ∷ ts) k h =
     let j : t .number ≤ top = rises-below (t .number) top ts (h .1) in
-    ap {B = Bool} (λ (b : Bool). elim b [ true ↦ true | false ↦ known m ts ]) (eqb-less (t .number) m (omega arith))
+    ap {B = Bool} (λ (b : Bool). elim b [ true ↦ true | false ↦ isLogged m ts ]) (eqb-less (t .number) m (omega arith))
     ∙ known-new (t .number) top m ts k (h .1)
 
 module _ (top : ℕ) (t : Tx) (R : Log) where
-  pub known-at : (n : ℕ) (P : Log) → InOrder n top (P ++ t ∷ R) → known (t .number) (P ++ t ∷ R) ≡ true
-  known-at n [] h = ap {B = Bool} (λ (b : Bool). elim b [ true ↦ true | false ↦ known (t .number) R ]) (eq-eqb (t .number) (t .number) refl)
+  pub known-at : (n : ℕ) (P : Log) → InOrder n top (P ++ t ∷ R) → isLogged (t .number) (P ++ t ∷ R) ≡ true
+  known-at n [] h = ap {B = Bool} (λ (b : Bool). elim b [ true ↦ true | false ↦ isLogged (t .number) R ]) (eq-eqb (t .number) (t .number) refl)
   known-at n (p ∷ P) h =
-      ap {B = Bool} (λ (b : Bool). elim b [ true ↦ true | false ↦ known (t .number) (P ++ t ∷ R) ]) (eqb-less (p .number) (t .number) (rises-at (p .number) top P t R (h .1)))
+      ap {B = Bool} (λ (b : Bool). elim b [ true ↦ true | false ↦ isLogged (t .number) (P ++ t ∷ R) ]) (eqb-less (p .number) (t .number) (rises-at (p .number) top P t R (h .1)))
       ∙ known-at (p .number) P (h .1)
 
   pub at-at : (g : Tx → Tx) (n : ℕ) (P : Log) → InOrder n top (P ++ t ∷ R) → at (t .number) g (P ++ t ∷ R) ≡ P ++ g t ∷ R

@@ -10,24 +10,7 @@ use Rattle.model.specs.Limits.{mostFragments, mostLive, leastRoom}
 use Rattle.model.specs.Operations.{multi}
 use Rattle.model.specs.Transactions.{finished, failed, Engine}
 use Rattle.model.specs.Refusals.{sound, formedEvent, inside, Call, live, new, isFront, atFront, rows, firstOf, refusal, respond, step}
-use Rattle.model.proofs.Chain.{All}
-
-pub record Passed (e : Engine) (c : Call) : Type 0 where
-  pub one : not (sound e) ≡ false
-  pub two : ltb (length (c .room)) leastRoom ≡ false
-  pub three : (eqb (length (c .lent)) 0 || not (eqb (length (c .lent)) (e .count))) ≡ false
-  pub four : not (formedEvent (c .event)) ≡ false
-  pub five : (eqb (c .event .kind) 1 && not (inside (e .count) (c .event .fragment))) ≡ false
-  pub six : (not (live (c .event .number) e) && not (new (c .event .number) e)) ≡ false
-  pub seven : (live (c .event .number) e && not (isFront (c .event .number) e)) ≡ false
-  pub eight : (eqb (c .event .kind) 1 && atFront (c .event .number) (λ u. finished (u .state)) e) ≡ false
-  pub nine :
-      (eqb (c .event .kind) 1 && atFront (c .event .number) (λ u. not (multi (c .event .fragment)) || not (eqb (u .first .coordinator) (c .event .fragment .coordinator))) e) ≡ false
-  pub ten : (eqb (c .event .kind) 1 && new (c .event .number) e && leb mostLive (length (e .uncommitted) + length (e .waiting))) ≡ false
-  pub eleven : (eqb (c .event .kind) 1 && atFront (c .event .number) (λ u. leb mostFragments (u .ran)) e) ≡ false
-  pub twelve : (not (eqb (c .event .kind) 1) && new (c .event .number) e) ≡ false
-  pub thirteen : (eqb (c .event .kind) 2 && atFront (c .event .number) (λ u. not (finished (u .state))) e) ≡ false
-  pub fourteen : (eqb (c .event .kind) 2 && atFront (c .event .number) (λ u. failed (u .state)) e) ≡ false
+use Rattle.model.specs.Parts.{All, Passed}
 
 none-applies : (rs : List (ℕ × Bool)) → All (λ (r : ℕ × Bool). 0 < r .0) rs → firstOf rs ≡ 0 → All (λ (r : ℕ × Bool). r .1 ≡ false) rs
 none-applies [] p h = tt

@@ -14,9 +14,10 @@ use Rattle.model.specs.Demand.{Rises}
 use Rattle.model.specs.declared.Fragment.{Fragment}
 use Rattle.model.specs.declared.Scheme.{Scheme}
 use Rattle.model.proofs.Branches.{placed-idle, placed-behind, settled-cases, drain-cases, held-cases, request-cases}
-use Rattle.model.proofs.Passing.{Passed, passed, front-or-new}
-use Rattle.model.proofs.Sound.{Sound, SoundEngine, sound-parts}
+use Rattle.model.proofs.Passing.{passed, front-or-new}
+use Rattle.model.proofs.Sound.{sound-parts}
 use Rattle.model.proofs.Keeping.{rises-weaken, numbers-requeued, numbers-more, rises-more}
+use Rattle.model.specs.Parts.{Passed, Sound, SoundEngine}
 
 rising-low : (m n : ℕ) (l : List Answer) → m ≤ n → Rising n l → Rising m l
 rising-low m n [] k h = tt

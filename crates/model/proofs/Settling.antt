@@ -14,10 +14,11 @@ use Rattle.model.specs.Demand.{Log, Standing, Settles, Gone, Undecided, 
 use Rattle.model.specs.declared.Fragment.{Fragment}
 use Rattle.model.specs.declared.Scheme.{Scheme}
 use Rattle.model.proofs.Logs.{InOrder, rises-at, rises-put, rises-more, rises-below, gives-at, Past, Closed, closed-snoc, past-settles, past-gone, at-at, Grows, grows-more, grows-put}
-use Rattle.model.proofs.Chain.{asTx, txOf, lives, Entry, Chain, ButLast, FrontMulti, Pend, InPast, Followed, All, all-map, all-append, Inv, chain-undone, lives-requeued, ready-tail, again-entry, sent-is-not-held, followed-idle, in-past, pend-multi-leaves, pend-single-leaves, pend-front, pend-alone, settled-is}
+use Rattle.model.proofs.Chain.{asTx, txOf, lives, Entry, Chain, ButLast, FrontMulti, Pend, InPast, Followed, all-map, all-append, Inv, chain-undone, lives-requeued, ready-tail, again-entry, sent-is-not-held, followed-idle, in-past, pend-multi-leaves, pend-single-leaves, pend-front, pend-alone, settled-is}
 use Rattle.model.proofs.Replying.{Singled, singled-none, singled-both, singled-from, singled-multi, singled-settles, singled-commit, singled-gone}
 use Rattle.model.proofs.Branches.{settled-cases, held-cases}
 use Rattle.model.proofs.Draining.{Plain, After, drain-inv, past-if}
+use Rattle.model.specs.Parts.{All}
 
 -- an answer without a dependence, and right
 abbrev pub Sure : Cells → Log → Answer → Type 0

@@ -13,43 +13,9 @@ use Rattle.model.specs.Transactions.{finished, holds, Uncommitted, Waiti
 use Rattle.model.specs.Refusals.{every, rising, storable, behind, ready, fits, isState, isReply, clauses, sound}
 use Rattle.model.specs.Demand.{Rises}
 use Rattle.model.specs.declared.Undo.{Undo}
-use Rattle.model.proofs.Chain.{All, all-map}
+use Rattle.model.proofs.Chain.{all-map}
 use Rattle.model.proofs.Tests.{both, and-left, and-right, every-all, all-every, every-append, every-first, every-rest}
-
-abbrev pub cellInside : ℕ → Undo → Bool
-cellInside ct x = ltb (x .cell) ct
-
--- the clauses that speak of one uncommitted transaction
-pub record SoundOne (ct : ℕ) (u : Uncommitted) : Type 0 where
-  pub eight : u .ran ≤ mostFragments
-  pub stored : storable ct (u .first) ≡ true
-  pub some : 1 ≤ u .ran
-  pub held : (multi (u .first) || holds (u .reply)) ≡ true
-  pub fits : fits (u .reply) ≡ true
-  pub inside : every (cellInside ct) (u .undo) ≡ true
-  pub few : length (u .undo) ≤ 8 * u .ran
-  pub read : (isState (u .state) && isReply (u .reply)) ≡ true
-
-abbrev pub Stored : ℕ → Waiting → Type 0
-Stored ct w = storable ct (w .fragment) ≡ true
-
--- "a front that is a single or holds its answer"
-abbrev pub badFront : Uncommitted → Bool
-badFront u = not (multi (u .first)) || holds (u .reply)
-
-pub record Sound (ct top : ℕ) (us : List Uncommitted) (ws : List Waiting) : Type 0 where
-  pub cells : ct ≤ mostCells
-  pub sixteen : length us ≤ depth
-  pub sixtyFour : length us + length ws ≤ mostLive
-  pub rises : Rises 0 top (numbers us ws)
-  pub each : All (SoundOne ct) us
-  pub waiting : All (Stored ct) ws
-  pub ones : All (λ (u : Uncommitted). u .ran ≤ 1) (behind us)
-  pub front : front badFront us ≡ false
-  pub ready : ready us ≡ true
-
-abbrev pub SoundEngine : Engine → Type 0
-SoundEngine e = Sound (e .count) (e .largest) (e .uncommitted) (e .waiting)
+use Rattle.model.specs.Parts.{All, cellInside, SoundOne, Stored, badFront, Sound, SoundEngine}
 
 -- From the test
 

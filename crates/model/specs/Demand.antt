@@ -19,9 +19,9 @@ use Rattle.model.specs.declared.Fragment.{Fragment}
 abbrev pub Log : Type 0
 Log = List Tx
 
-abbrev pub known : ℕ → Log → Bool
-known n [] = false
-known n (t ∷ ts) = elim (eqb (t .number) n) [ true ↦ true | false ↦ known n ts ]
+abbrev pub isLogged : ℕ → Log → Bool
+isLogged n [] = false
+isLogged n (t ∷ ts) = elim (eqb (t .number) n) [ true ↦ true | false ↦ isLogged n ts ]
 
 -- change transaction n
 abbrev pub at : ℕ → (Tx → Tx) → Log → Log
@@ -36,7 +36,7 @@ decided d t = record { number = t .number; first = t .first; more = t .more; dec
 
 -- an accepted request
 abbrev pub logged : Request → Log → Log
-logged (Arrive n f) l = elim (known n l) [ true ↦ at n (extended f) l | false ↦ l ++ (record { number = n; first = f; more = []; decision = Open } ∷ []) ]
+logged (Arrive n f) l = elim (isLogged n l) [ true ↦ at n (extended f) l | false ↦ l ++ (record { number = n; first = f; more = []; decision = Open } ∷ []) ]
 logged (Commit n) l = at n (decided Committed) l
 logged (Abort n) l = at n (decided Aborted) l
 
@@ -97,13 +97,13 @@ liveOf [] = []
 liveOf (t ∷ ts) = elim (standing t) [ Settles ↦ liveOf ts | Gone ↦ liveOf ts | Undecided ↦ t ∷ ts ]
 
 -- the uncommitted ones: as many of the live ones as the record's queue has
-abbrev pub uncommittedOf : Run → List Tx
-uncommittedOf r = take (length (r .engine .uncommitted)) (liveOf (r .log))
+abbrev pub uncommittedTx : Run → List Tx
+uncommittedTx r = take (length (r .engine .uncommitted)) (liveOf (r .log))
 
 -- "Between any two calls the cells hold what one gets by running the settled transactions one at a time in number order, then the uncommitted ones in
 -- queue order, as far as their fragments have run. An aborted or failed transaction contributes nothing."
 abbrev pub CellsHold : Cells → Run → Type 0
-CellsHold cs r = r .cells ≡ serial (uncommittedOf r) (serial (settledOf (r .log)) cs)
+CellsHold cs r = r .cells ≡ serial (uncommittedTx r) (serial (settledOf (r .log)) cs)
 
 abbrev pub numbersOf : List Tx → List ℕ
 numbersOf ts = map (λ (t : Tx). t .number) ts

@@ -7,3 +7,4 @@ pub mod Serial
 pub mod Demand
 pub mod Schemes
 pub mod Depot
+pub mod Parts

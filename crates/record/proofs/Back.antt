@@ -12,8 +12,8 @@ use Rattle.model.specs.Operations.{Outcome}
 use Rattle.model.specs.Transactions.{State, Running, Finished, Failed, NoState, Reply, Held, Sent, NoReply, Uncommitted, Waiting, Engine, undoList}
 use Rattle.model.specs.Steps.{requeued}
 use Rattle.model.specs.Refusals.{fits, isState, isReply, sound}
-use Rattle.model.proofs.Chain.{All, all-append, all-map}
-use Rattle.model.proofs.Sound.{SoundOne, Sound, sound-parts, entries-most}
+use Rattle.model.proofs.Chain.{all-append, all-map}
+use Rattle.model.proofs.Sound.{sound-parts, entries-most}
 use Rattle.model.proofs.Tests.{and-left, and-right}
 use Rattle.model.specs.declared.Op.{Op}
 use Rattle.model.specs.declared.Fragment.{Fragment}
@@ -23,6 +23,9 @@ use Rattle.operations.proofs.Turns.{noOp, length-padded}
 use Rattle.record.specs.Words.{opsWords, rowWords, allRows, stateWord, replyWord, heldOutcome, outcomeWords, runWords, allRuns, liveRows, pack}
 use Rattle.record.specs.View.{opAt, fragmentAt, waitingOf, numbersFrom, stateOf, replyOf, memberAt, uncommittedOf, viewOf, view}
 use Rattle.record.proofs.Rows.{getD-padded, numbers-same, numbers-whole, row-words, eight}
+use Rattle.model.specs.Parts.{All, SoundOne, Sound}
+use Rattle.record.specs.Fitting.{Eight, Fit, Known}
+use Rattle.record.specs.Widths.{liveWidth, runWidth, liveLength, runsLength, undoLength}
 
 -- a stretch of a padded row
 pub block-read : (n : ℕ) (X Y Z : List ℕ) (m k : ℕ) → length X ≡ m → k < length Y → getD (padded n (X ++ (Y ++ Z))) (m + k) 0 ≡ getD Y k 0
@@ -30,9 +33,6 @@ block-read n X Y Z m k e h =
     getD-padded n (X ++ (Y ++ Z)) (m + k) ∙ ap (λ (x : ℕ). getD (X ++ (Y ++ Z)) (x + k) 0) (sym e) ∙ getD-append-add X (Y ++ Z) k 0 ∙ List·getD-append Y Z 0 k h
 
 -- Transactions
-
-abbrev pub Eight : Waiting → Type 0
-Eight w = length (w .fragment .row) ≡ 8
 
 pub eights-first : (a b : List Waiting) → All Eight (a ++ b) → All Eight a
 eights-first [] b h = tt
@@ -46,11 +46,11 @@ length-ops : (os : List Op) → length (opsWords os) ≡ 3 * length os
 length-ops [] = omega arith
 length-ops (o ∷ os) = omega (arith, length-ops os)
 
-pub length-row : (n : ℕ) (f : Fragment) → length (f .row) ≡ 8 → length (rowWords n f) ≡ 28
+pub length-row : (n : ℕ) (f : Fragment) → length (f .row) ≡ 8 → length (rowWords n f) ≡ liveWidth
 unfolding rowWords
 length-row n f h = omega (arith, length-ops (f .row))
 
-pub length-rows : (ws : List Waiting) → All Eight ws → length (allRows ws) ≡ 28 * length ws
+pub length-rows : (ws : List Waiting) → All Eight ws → length (allRows ws) ≡ liveWidth * length ws
 unfolding allRows
 length-rows [] h = omega arith
 length-rows (w ∷ ws) h = length-append (rowWords (w .number) (w .fragment)) (allRows ws) ∙ omega (arith, length-row (w .number) (w .fragment) (h .0), length-rows ws (h .1))
@@ -62,13 +62,13 @@ rows-append (w ∷ a) b = ap (λ (x : List ℕ). rowWords (w .number) (w .fragme
 
 -- l from b on and m from c on agree on a transaction's words
 abbrev pub Agree : List ℕ → ℕ → List ℕ → ℕ → Type 0
-Agree l b m c = (k : ℕ) → k < 28 → getD l (b + k) 0 ≡ getD m (c + k) 0
+Agree l b m c = (k : ℕ) → k < liveWidth → getD l (b + k) 0 ≡ getD m (c + k) 0
 
 module _ (l : List ℕ) (b : ℕ) (m : List ℕ) (c : ℕ) (a : Agree l b m c) where
-  word-same : (x y k : ℕ) → x ≡ b + k → y ≡ c + k → k < 28 → getD l x 0 ≡ getD m y 0
+  word-same : (x y k : ℕ) → x ≡ b + k → y ≡ c + k → k < liveWidth → getD l x 0 ≡ getD m y 0
   word-same x y k ex ey h = ap (λ (z : ℕ). getD l z 0) ex ∙ a k h ∙ ap (λ (z : ℕ). getD m z 0) (sym ey)
 
-  op-same : (o : ℕ) → o + 3 ≤ 28 → opAt l (b + o) ≡ opAt m (c + o)
+  op-same : (o : ℕ) → o + 3 ≤ liveWidth → opAt l (b + o) ≡ opAt m (c + o)
   op-same o h = λ i. record {
     code = word-same (b + o) (c + o) o refl refl (omega arith) i;
     cell = word-same (b + o + 1) (c + o + 1) (o + 1) (omega arith) (omega arith) (omega arith) i;
@@ -89,8 +89,8 @@ unfolding fragmentAt
 fragment-of-words n f h =
     ap (λ (x : List ℕ). fragmentAt x 0) (sym (row-words n f h)) ∙ (λ i. record { flags = f .flags; coordinator = f .coordinator; count = f .count; row = eight (f .row) h i })
 
-module _ (n : ℕ) (A : List Waiting) (t : Waiting) (B : List Waiting) (b : ℕ) (ea : All Eight A) (et : Eight t) (eb : 28 * length A ≡ b) where
-  pub row-read : (k : ℕ) → k < 28 → getD (padded n (allRows (A ++ t ∷ B))) (b + k) 0 ≡ getD (rowWords (t .number) (t .fragment)) k 0
+module _ (n : ℕ) (A : List Waiting) (t : Waiting) (B : List Waiting) (b : ℕ) (ea : All Eight A) (et : Eight t) (eb : liveWidth * length A ≡ b) where
+  pub row-read : (k : ℕ) → k < liveWidth → getD (padded n (allRows (A ++ t ∷ B))) (b + k) 0 ≡ getD (rowWords (t .number) (t .fragment)) k 0
   unfolding allRows
   row-read k h =
       ap (λ (x : List ℕ). getD (padded n x) (b + k) 0) (rows-append A (t ∷ B))
@@ -105,20 +105,17 @@ module _ (n : ℕ) (A : List Waiting) (t : Waiting) (B : List Waiting) (b : ℕ)
   unfolding rowWords
   number-back = (let z : b ≡ b + 0 = omega arith in ap (λ (x : ℕ). getD (padded n (allRows (A ++ t ∷ B))) x 0) z) ∙ row-read 0 (omega arith)
 
-pub waiting-back : (n : ℕ) (A ws : List Waiting) (b : ℕ) → All Eight A → All Eight ws → 28 * length A ≡ b → waitingOf (padded n (allRows (A ++ ws))) b (length ws) ≡ ws
+pub waiting-back : (n : ℕ) (A ws : List Waiting) (b : ℕ) → All Eight A → All Eight ws → liveWidth * length A ≡ b → waitingOf (padded n (allRows (A ++ ws))) b (length ws) ≡ ws
 unfolding waitingOf
 waiting-back n A [] b ea ew e = refl
 waiting-back n A (w ∷ ws) b ea ew e =
     let l : (A ++ (w ∷ [])) ++ ws ≡ A ++ w ∷ ws = append-assoc A (w ∷ []) ws in
-    let rest : waitingOf (padded n (allRows (A ++ w ∷ ws))) (b + 28) (length ws) ≡ ws =
-    ap (λ (x : List Waiting). waitingOf (padded n (allRows x)) (b + 28) (length ws)) (sym l)
-    ∙ waiting-back n (A ++ (w ∷ [])) ws (b + 28) (all-append Eight A (w ∷ []) ea (ew .0, tt)) (ew .1) (omega (arith, length-append A (w ∷ []))) in
+    let rest : waitingOf (padded n (allRows (A ++ w ∷ ws))) (b + liveWidth) (length ws) ≡ ws =
+    ap (λ (x : List Waiting). waitingOf (padded n (allRows x)) (b + liveWidth) (length ws)) (sym l)
+    ∙ waiting-back n (A ++ (w ∷ [])) ws (b + liveWidth) (all-append Eight A (w ∷ []) ea (ew .0, tt)) (ew .1) (omega (arith, length-append A (w ∷ []))) in
     λ i. record { number = number-back n A w ws b ea (ew .0) e i; fragment = fragment-back n A w ws b ea (ew .0) e i } ∷ rest i
 
 -- Runs
-
-abbrev pub Fit : Uncommitted → Type 0
-Fit u = length (heldOutcome (u .reply) .numbers) ≤ 8
 
 pub length-run : (u : Uncommitted) → Fit u → length (runWords u) ≡ 16
 unfolding runWords
@@ -126,7 +123,7 @@ length-run u h =
     let ns : List ℕ = padded 8 (heldOutcome (u .reply) .numbers) in
     omega (arith, length-append ns (0 ∷ 0 ∷ []), length-padded 8 (heldOutcome (u .reply) .numbers) h)
 
-pub length-runs : (us : List Uncommitted) → All Fit us → length (allRuns us) ≡ 16 * length us
+pub length-runs : (us : List Uncommitted) → All Fit us → length (allRuns us) ≡ runWidth * length us
 unfolding allRuns
 length-runs [] h = omega arith
 length-runs (u ∷ us) h = length-append (runWords u) (allRuns us) ∙ omega (arith, length-run u (h .0), length-runs us (h .1))
@@ -136,7 +133,7 @@ unfolding allRuns
 runs-append [] b = refl
 runs-append (u ∷ a) b = ap (λ (x : List ℕ). runWords u ++ x) (runs-append a b) ∙ sym (append-assoc (runWords u) (allRuns a) (allRuns b))
 
-pub run-read : (n : ℕ) (P : List Uncommitted) (u : Uncommitted) (Q : List Uncommitted) (c k : ℕ) → All Fit P → Fit u → 16 * length P ≡ c → k < 16
+pub run-read : (n : ℕ) (P : List Uncommitted) (u : Uncommitted) (Q : List Uncommitted) (c k : ℕ) → All Fit P → Fit u → runWidth * length P ≡ c → k < 16
     → getD (padded n (allRuns (P ++ u ∷ Q))) (c + k) 0 ≡ getD (runWords u) k 0
 unfolding allRuns
 run-read n P u Q c k ep eu e h =
@@ -196,7 +193,7 @@ reply-back Sent h = refl
 reply-back NoReply h = absurd (mathlib.Core.Bool.true≢false (sym h))
 
 -- n numbers of a run, read through the row that holds it
-module _ (n : ℕ) (P : List Uncommitted) (u : Uncommitted) (Q : List Uncommitted) (c : ℕ) (ep : All Fit P) (eu : Fit u) (e : 16 * length P ≡ c) where
+module _ (n : ℕ) (P : List Uncommitted) (u : Uncommitted) (Q : List Uncommitted) (c : ℕ) (ep : All Fit P) (eu : Fit u) (e : runWidth * length P ≡ c) where
   pub word-back : (k : ℕ) → k < 16 → getD (padded n (allRuns (P ++ u ∷ Q))) (c + k) 0 ≡ getD (runWords u) k 0
   word-back k h = run-read n P u Q c k ep eu e h
 
@@ -215,15 +212,12 @@ module _ (n : ℕ) (P : List Uncommitted) (u : Uncommitted) (Q : List Uncommitte
       ∙ numbers-run u eu in
       (λ i. replyOf (w2 i) (record { place = w4 i; numbers = read i })) ∙ reply-back (u .reply) h
 
-abbrev pub Known : Uncommitted → Type 0
-Known u = Fit u × (isState (u .state) ≡ true) × (isReply (u .reply) ≡ true)
-
 known-fits : (us : List Uncommitted) → All Known us → All Fit us
 known-fits us h = all-map Known Fit (λ u k. k .0) us h
 
 -- us read back, behind A in the live row, behind P in the runs and in the undo row
 pub members-back : (nl nr nu : ℕ) (A : List Waiting) (P us : List Uncommitted) (ws : List Waiting) (b c d : ℕ) → All Eight A → All Eight (liveRows us ws) → All Known P → All Known us
-    → 28 * length A ≡ b → 16 * length P ≡ c → 2 * length (undoList P) ≡ d
+    → liveWidth * length A ≡ b → runWidth * length P ≡ c → 2 * length (undoList P) ≡ d
     → uncommittedOf (padded nl (allRows (A ++ liveRows us ws))) b (padded nr (allRuns (P ++ us))) c (padded nu (flat (undoList (P ++ us)))) d (length us) ≡ us
 unfolding uncommittedOf memberAt runWords
 members-back nl nr nu A P [] ws b c d ea el kp ku eb ec ed = refl
@@ -241,9 +235,9 @@ members-back nl nr nu A P (u ∷ us) ws b c d ea el kp ku eb ec ed =
     let lP : (P ++ (u ∷ [])) ++ us ≡ P ++ u ∷ us = append-assoc P (u ∷ []) us in
     let d′ : d + 2 * getD runs (c + 3) 0 ≡ 2 * length (undoList (P ++ (u ∷ []))) =
     omega (arith, ed, w3, ap length (undo-append P (u ∷ [])), length-append (undoList P) (u .undo ++ []), length-append (u .undo) []) in
-    let rest : uncommittedOf live (b + 28) runs (c + 16) undo (d + 2 * getD runs (c + 3) 0) (length us) ≡ us =
-    (λ i. uncommittedOf (padded nl (allRows (sym lA i))) (b + 28) (padded nr (allRuns (sym lP i))) (c + 16) (padded nu (flat (undoList (sym lP i)))) (d′ i) (length us))
-    ∙ members-back nl nr nu (A ++ (requeued u ∷ [])) (P ++ (u ∷ [])) us ws (b + 28) (c + 16) (2 * length (undoList (P ++ (u ∷ [])))) (all-append Eight A (requeued u ∷ []) ea (el .0, tt)) (el .1)
+    let rest : uncommittedOf live (b + liveWidth) runs (c + runWidth) undo (d + 2 * getD runs (c + 3) 0) (length us) ≡ us =
+    (λ i. uncommittedOf (padded nl (allRows (sym lA i))) (b + liveWidth) (padded nr (allRuns (sym lP i))) (c + runWidth) (padded nu (flat (undoList (sym lP i)))) (d′ i) (length us))
+    ∙ members-back nl nr nu (A ++ (requeued u ∷ [])) (P ++ (u ∷ [])) us ws (b + liveWidth) (c + runWidth) (2 * length (undoList (P ++ (u ∷ [])))) (all-append Eight A (requeued u ∷ []) ea (el .0, tt)) (el .1)
     (all-append Known P (u ∷ []) kp (ku .0, tt)) (ku .1) (omega (arith, length-append A (requeued u ∷ []))) (omega (arith, length-append P (u ∷ []))) refl in
     λ i. record {
       number = number-back nl A (requeued u) (liveRows us ws) b ea (el .0) eb i;
@@ -273,6 +267,6 @@ view-pack e h el =
     λ i. record {
       count = e .count;
       largest = e .largest;
-      uncommitted = members-back 1792 256 368 [] [] us ws 0 0 0 tt el tt k refl refl refl i;
-      waiting = waiting-back 1792 (map requeued us) ws (28 * length us) (eights-first (map requeued us) ws el) (eights-rest (map requeued us) ws el) (ap (λ (x : ℕ). 28 * x) (length-map us requeued)) i;
+      uncommitted = members-back liveLength runsLength undoLength [] [] us ws 0 0 0 tt el tt k refl refl refl i;
+      waiting = waiting-back liveLength (map requeued us) ws (liveWidth * length us) (eights-first (map requeued us) ws el) (eights-rest (map requeued us) ws el) (ap (λ (x : ℕ). liveWidth * x) (length-map us requeued)) i;
     }

@@ -15,6 +15,7 @@ use Rattle.operations.specs.Laid.{padded}
 use Rattle.operations.proofs.Turns.{noOp, length-padded}
 use Rattle.record.specs.Words.{opsWords, rowWords}
 use Rattle.record.specs.View.{opAt, fragmentAt, numbersFrom, zeros}
+use Rattle.record.specs.Widths.{liveWidth}
 
 -- one turn of laying, from a place of the words on; its start and its end
 pub lay-turn : (row row′ words all : List ℕ) (at from n i w : ℕ) → i < n → w ≡ getD words (from + i) 0 → row′ ≡ set row (at + i) w → sets row (at + i) (numbersFrom words (from + i) (n - i)) ≡ all
@@ -203,7 +204,7 @@ copied-out row at m n e =
         let z : getD (zeros m) x 0 ≡ 0 = getD-replicate m x 0 0 h in
         getD-sets-after (zeros m) 0 (numbersFrom row at n) x (omega (arith, length-numbers row at n)) ∙ z ∙ sym (getD-numbers row at m x h ∙ List·getD-eq-default row 0 {n = at + x} (omega arith))
 
-pub fragment-words : (row : List ℕ) (at : ℕ) → fragmentAt (numbersFrom row at 28) 0 ≡ fragmentAt row at
+pub fragment-words : (row : List ℕ) (at : ℕ) → fragmentAt (numbersFrom row at liveWidth) 0 ≡ fragmentAt row at
 unfolding fragmentAt
 fragment-words row at = λ j. record {
   flags = w 1 (omega arith) j;
@@ -212,16 +213,16 @@ fragment-words row at = λ j. record {
   row = o 4 (omega arith) j ∷ o 7 (omega arith) j ∷ o 10 (omega arith) j ∷ o 13 (omega arith) j ∷ o 16 (omega arith) j ∷ o 19 (omega arith) j ∷ o 22 (omega arith) j ∷ o 25 (omega arith) j ∷ [];
 }
   where
-    w : (x : ℕ) → x < 28 → getD (numbersFrom row at 28) (0 + x) 0 ≡ getD row (at + x) 0
-    w x h = let z : 0 + x ≡ x = omega arith in ap (λ (y : ℕ). getD (numbersFrom row at 28) y 0) z ∙ getD-numbers row at 28 x h
+    w : (x : ℕ) → x < liveWidth → getD (numbersFrom row at liveWidth) (0 + x) 0 ≡ getD row (at + x) 0
+    w x h = let z : 0 + x ≡ x = omega arith in ap (λ (y : ℕ). getD (numbersFrom row at liveWidth) y 0) z ∙ getD-numbers row at liveWidth x h
 
-    at-part : (x k : ℕ) → x + k < 28 → getD (numbersFrom row at 28) (0 + x + k) 0 ≡ getD row (at + x + k) 0
+    at-part : (x k : ℕ) → x + k < liveWidth → getD (numbersFrom row at liveWidth) (0 + x + k) 0 ≡ getD row (at + x + k) 0
     at-part x k h =
         let z : 0 + x + k ≡ x + k = omega arith in
         let y : at + (x + k) ≡ at + x + k = omega arith in
-        ap (λ (q : ℕ). getD (numbersFrom row at 28) q 0) z ∙ getD-numbers row at 28 (x + k) h ∙ ap (λ (q : ℕ). getD row q 0) y
+        ap (λ (q : ℕ). getD (numbersFrom row at liveWidth) q 0) z ∙ getD-numbers row at liveWidth (x + k) h ∙ ap (λ (q : ℕ). getD row q 0) y
 
-    o : (x : ℕ) → x < 26 → opAt (numbersFrom row at 28) (0 + x) ≡ opAt row (at + x)
+    o : (x : ℕ) → x < 26 → opAt (numbersFrom row at liveWidth) (0 + x) ≡ opAt row (at + x)
     o x h = λ j. record { code = w x (omega arith) j; cell = at-part x 1 (omega arith) j; amount = at-part x 2 (omega arith) j }
 
 -- one turn of clearing a stretch

@@ -1,2 +1,4 @@
+pub mod Widths
 pub mod Words
 pub mod View
+pub mod Fitting

@@ -9,6 +9,7 @@ use Rattle.model.specs.declared.Op.{Op}
 use Rattle.model.specs.declared.Fragment.{Fragment}
 use Rattle.operations.specs.Laid.{entriesOf}
 use Rattle.record.specs.declared.Record.{Record}
+use Rattle.record.specs.Widths.{liveWidth, runWidth, entryWidth}
 
 -- the operation whose words start at b
 abbrev pub opAt : List ℕ → ℕ → Op
@@ -26,7 +27,7 @@ fragmentAt l b = record {
 -- n waiting ones, the first of which starts at b
 unfoldable pub waitingOf : List ℕ → ℕ → ℕ → List Waiting
 waitingOf l b zero = []
-waitingOf l b (suc n) = record { number = getD l b 0; fragment = fragmentAt l b } ∷ waitingOf l (b + 28) n
+waitingOf l b (suc n) = record { number = getD l b 0; fragment = fragmentAt l b } ∷ waitingOf l (b + liveWidth) n
 
 -- n numbers from b on
 unfoldable pub numbersFrom : List ℕ → ℕ → ℕ → List ℕ
@@ -58,7 +59,7 @@ memberAt live b runs c undo d = record {
 -- n uncommitted ones, the first of which is so
 unfoldable pub uncommittedOf : List ℕ → ℕ → List ℕ → ℕ → List ℕ → ℕ → ℕ → List Uncommitted
 uncommittedOf live b runs c undo d zero = []
-uncommittedOf live b runs c undo d (suc n) = memberAt live b runs c undo d ∷ uncommittedOf live (b + 28) runs (c + 16) undo (d + 2 * getD runs (c + 3) 0) n
+uncommittedOf live b runs c undo d (suc n) = memberAt live b runs c undo d ∷ uncommittedOf live (b + liveWidth) runs (c + runWidth) undo (d + entryWidth * getD runs (c + 3) 0) n
 
 -- what the words of a record mean
 unfoldable pub viewOf : ℕ → ℕ → ℕ → ℕ → List ℕ → List ℕ → List ℕ → Engine
@@ -66,7 +67,7 @@ viewOf count largest uncommitted waiting live runs undo = record {
   count = count;
   largest = largest;
   uncommitted = uncommittedOf live 0 runs 0 undo 0 uncommitted;
-  waiting = waitingOf live (28 * uncommitted) waiting;
+  waiting = waitingOf live (liveWidth * uncommitted) waiting;
 }
 
 abbrev pub view : Record → Engine

@@ -9,6 +9,7 @@ use Rattle.model.specs.declared.Op.{Op}
 use Rattle.model.specs.declared.Fragment.{Fragment}
 use Rattle.operations.specs.Laid.{padded, flat}
 use Rattle.record.specs.declared.Record.{Record}
+use Rattle.record.specs.Widths.{liveLength, runsLength, undoLength}
 
 -- eight times code, cell, amount
 abbrev pub opsWords : List Op → List ℕ
@@ -64,7 +65,7 @@ pack e = record {
   largest = e .largest;
   uncommitted = length (e .uncommitted);
   waiting = length (e .waiting);
-  live = padded 1792 (allRows (liveRows (e .uncommitted) (e .waiting)));
-  runs = padded 256 (allRuns (e .uncommitted));
-  undo = padded 368 (flat (undoList (e .uncommitted)));
+  live = padded liveLength (allRows (liveRows (e .uncommitted) (e .waiting)));
+  runs = padded runsLength (allRuns (e .uncommitted));
+  undo = padded undoLength (flat (undoList (e .uncommitted)));
 }

@@ -1,4 +1,5 @@
 // The engine's record by value, every field a 32-bit number, and what is read off its rows.
+ghost use Rattle.record.specs.Widths.{liveWidth};
 ghost use mathlib.Core.Path.{_≡_};
 ghost use Prim.Native.Nat.{_+_, _*_, _-_, _<_, _≤_, min};
 ghost use lib.ListN.{length, getD, take};
@@ -9,18 +10,35 @@ ghost use Rattle.operations.specs.Laid.{padded};
 use model::Fragment;
 use model::Op;
 
+// The layout, in one place: the words of a live transaction, of a run and of an undo entry, as indices and as numbers of a record, and the
+// words of the record's rows, for 64 live ones, 16 uncommitted ones and 184 entries.
+pub const LIVE_WORDS: usize = 28;
+
+pub const RUN_WORDS: usize = 16;
+
+pub const LIVE_WIDTH: u32 = 28;
+
+pub const RUN_WIDTH: u32 = 16;
+
+pub const ENTRY_WIDTH: u32 = 2;
+
+pub const LIVE_LENGTH: usize = 1792;
+
+pub const RUNS_LENGTH: usize = 256;
+
+pub const UNDO_LENGTH: usize = 368;
+
 // "cell count, largest number accepted, uncommitted queue (at most 16), waiting queue, undo list": the live transactions stand in one row in
-// number order, 28 words each, the uncommitted ones first; beside each of those a run of 16 words; the undo entries of all of them in queue
-// order, oldest first, 2 words each. Any words are a record: which of them are sound is asked by each call.
+// number order, the uncommitted ones first; beside each of those a run; the undo entries of all of them in queue order, oldest first. Any words are a record: which of them are sound is asked by each call.
 #[repr(C)]
 pub struct Record {
     pub count: u32,
     pub largest: u32,
     pub uncommitted: u32,
     pub waiting: u32,
-    pub live: [u32; 1792],
-    pub runs: [u32; 256],
-    pub undo: [u32; 368],
+    pub live: [u32; LIVE_LENGTH],
+    pub runs: [u32; RUNS_LENGTH],
+    pub undo: [u32; UNDO_LENGTH],
 }
 
 // The operation whose words start at b, all of them there.
@@ -65,19 +83,19 @@ pub(crate) fn lay_in(row: &mut [u32], at: usize, words: &[u32], from: usize, n: 
 
 // The 28 words from a place on, 0 past the row's end. Few calls come here: the loop is as long as what is there, so that it stays a loop and
 // does not spread over the ways that read a row whole.
-pub(crate) fn words_from(row: &[u32], at: usize) -> [u32; 28]
-    ensures { λ r. ⌜ r ≡ numbersFrom (now (row .entry)) at 28 ⌝ }
+pub(crate) fn words_from(row: &[u32], at: usize) -> [u32; LIVE_WORDS]
+    ensures { λ r. ⌜ r ≡ numbersFrom (now (row .entry)) at liveWidth ⌝ }
 {
-    let mut words = [0u32; 28];
+    let mut words = [0u32; LIVE_WORDS];
     let there = less(row.len(), at);
-    let n = least(28, there);
+    let n = least(LIVE_WORDS, there);
     lay_in(&mut words, 0, row, at, n);
     words
 }
 
 // A fragment whose words are all there.
 pub(crate) fn fragment_in(row: &[u32], at: usize) -> Fragment
-    requires { ⌜ at + 28 ≤ length (now row) ⌝ }
+    requires { ⌜ at + liveWidth ≤ length (now row) ⌝ }
     ensures { λ r. ⌜ r ≡ fragmentAt (now (row .entry)) at ⌝ }
 {
     let flags = row[at + 1];
@@ -105,7 +123,7 @@ pub fn fragment_at(row: &[u32], b: u32) -> Fragment
     ensures { λ r. ⌜ r ≡ fragmentAt (now (row .entry)) b ⌝ }
 {
     let at = b as usize;
-    if at + 28 <= row.len() {
+    if at + LIVE_WORDS <= row.len() {
         return fragment_in(row, at);
     }
     let words = words_from(row, at);
@@ -113,7 +131,7 @@ pub fn fragment_at(row: &[u32], b: u32) -> Fragment
 }
 
 // The 28 words of a live transaction.
-pub fn row_words(number: u32, f: Fragment) -> [u32; 28]
+pub fn row_words(number: u32, f: Fragment) -> [u32; LIVE_WORDS]
     ensures { λ r. ⌜ r ≡ rowWords number f ⌝ }
 {
     let ops = f.row;

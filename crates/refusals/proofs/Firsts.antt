@@ -12,6 +12,7 @@ use Rattle.model.specs.Transactions.{Running, Finished, Failed, NoState, finish
 use Rattle.model.specs.Refusals.{firstOf, isIn}
 use Rattle.record.specs.View.{stateOf}
 use Rattle.refusals.specs.Rest.{rowNumbers}
+use Rattle.record.specs.Widths.{liveWidth}
 
 -- rows in two parts: where the first part answers, and where it does not
 
@@ -36,26 +37,26 @@ first-hit (r ∷ rs) ys h = go (first-hit rs ys) (r .1) h
     go more false h = more h
 
 -- the walk: what is left from row i on is the whole
-module _ (l : List ℕ) (n k i : ℕ) (whole : Bool) (inv : isIn k (rowNumbers l (28 * i) (n - i)) ≡ whole) where
-  live-step : i < n → (eqb (getD l (28 * i) 0) k || isIn k (rowNumbers l (28 * (i + 1)) (n - (i + 1)))) ≡ whole
+module _ (l : List ℕ) (n k i : ℕ) (whole : Bool) (inv : isIn k (rowNumbers l (liveWidth * i) (n - i)) ≡ whole) where
+  live-step : i < n → (eqb (getD l (liveWidth * i) 0) k || isIn k (rowNumbers l (liveWidth * (i + 1)) (n - (i + 1)))) ≡ whole
   unfolding rowNumbers
   live-step h =
       let e : n - i ≡ suc (n - (i + 1)) = omega arith in
-      let p : 28 * i + 28 ≡ 28 * (i + 1) = omega arith in
-      ap (λ (x : ℕ). eqb (getD l (28 * i) 0) k || isIn k (rowNumbers l x (n - (i + 1)))) (sym p) ∙ ap (λ (x : ℕ). isIn k (rowNumbers l (28 * i) x)) (sym e) ∙ inv
+      let p : liveWidth * i + liveWidth ≡ liveWidth * (i + 1) = omega arith in
+      ap (λ (x : ℕ). eqb (getD l (liveWidth * i) 0) k || isIn k (rowNumbers l x (n - (i + 1)))) (sym p) ∙ ap (λ (x : ℕ). isIn k (rowNumbers l (liveWidth * i) x)) (sym e) ∙ inv
 
-  module _ (h : i < n) (m : ℕ) (em : m ≡ getD l (28 * i) 0) where
-    pub live-on : (m ≡ k → ⊥) → isIn k (rowNumbers l (28 * (i + 1)) (n - (i + 1))) ≡ whole
-    live-on e = ap (λ (x : Bool). x || isIn k (rowNumbers l (28 * (i + 1)) (n - (i + 1)))) (sym (ne-eqb m k e) ∙ ap (λ (x : ℕ). eqb x k) em) ∙ live-step h
+  module _ (h : i < n) (m : ℕ) (em : m ≡ getD l (liveWidth * i) 0) where
+    pub live-on : (m ≡ k → ⊥) → isIn k (rowNumbers l (liveWidth * (i + 1)) (n - (i + 1))) ≡ whole
+    live-on e = ap (λ (x : Bool). x || isIn k (rowNumbers l (liveWidth * (i + 1)) (n - (i + 1)))) (sym (ne-eqb m k e) ∙ ap (λ (x : ℕ). eqb x k) em) ∙ live-step h
 
     pub live-found : m ≡ k → true ≡ whole
-    live-found e = ap (λ (x : Bool). x || isIn k (rowNumbers l (28 * (i + 1)) (n - (i + 1)))) (sym (eq-eqb m k e) ∙ ap (λ (x : ℕ). eqb x k) em) ∙ live-step h
+    live-found e = ap (λ (x : Bool). x || isIn k (rowNumbers l (liveWidth * (i + 1)) (n - (i + 1)))) (sym (eq-eqb m k e) ∙ ap (λ (x : ℕ). eqb x k) em) ∙ live-step h
 
   pub live-end : n ≤ i → false ≡ whole
   unfolding rowNumbers
-  live-end h = let e : n - i ≡ 0 = omega arith in ap (λ (x : ℕ). isIn k (rowNumbers l (28 * i) x)) (sym e) ∙ inv
+  live-end h = let e : n - i ≡ 0 = omega arith in ap (λ (x : ℕ). isIn k (rowNumbers l (liveWidth * i) x)) (sym e) ∙ inv
 
-pub live-start : (l : List ℕ) (n m k : ℕ) → n ≡ m → isIn k (rowNumbers l (28 * 0) (n - 0)) ≡ isIn k (rowNumbers l 0 m)
+pub live-start : (l : List ℕ) (n m k : ℕ) → n ≡ m → isIn k (rowNumbers l (liveWidth * 0) (n - 0)) ≡ isIn k (rowNumbers l 0 m)
 live-start l n m k e = let z : n - 0 ≡ m = omega arith in ap (λ (x : ℕ). isIn k (rowNumbers l 0 x)) z
 
 -- the words of a state that is finished, or failed

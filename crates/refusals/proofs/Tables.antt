@@ -16,6 +16,7 @@ use Rattle.model.specs.declared.Scheme.{Scheme}
 use Rattle.record.specs.View.{fragmentAt, memberAt, uncommittedOf, waitingOf, viewOf}
 use Rattle.refusals.specs.Rest.{callOf, behindFirst, rowNumbers, frontIs, foreign, shapeRows, knownRows, fragmentRows, decisionRows}
 use Rattle.refusals.proofs.Firsts.{first-hit, first-miss}
+use Rattle.record.specs.Widths.{liveWidth, runWidth}
 
 -- rows 8 to 14, from what they ask
 abbrev lastRows : (arrives commits fresh ready other full ran unready broken : Bool) → List (ℕ × Bool)
@@ -33,19 +34,19 @@ lastRows arrives commits fresh ready other full ran unready broken =
 waiting-numbers : (l : List ℕ) (b n : ℕ) → map (λ (w : Waiting). w .number) (waitingOf l b n) ≡ rowNumbers l b n
 unfolding waitingOf rowNumbers
 waiting-numbers l b zero = refl
-waiting-numbers l b (suc n) = ap {B = List ℕ} (λ (x : List ℕ). getD l b 0 ∷ x) (waiting-numbers l (b + 28) n)
+waiting-numbers l b (suc n) = ap {B = List ℕ} (λ (x : List ℕ). getD l b 0 ∷ x) (waiting-numbers l (b + liveWidth) n)
 
 length-waiting : (l : List ℕ) (b n : ℕ) → length (waitingOf l b n) ≡ n
 unfolding waitingOf
 length-waiting l b zero = refl
-length-waiting l b (suc n) = ap suc (length-waiting l (b + 28) n)
+length-waiting l b (suc n) = ap suc (length-waiting l (b + liveWidth) n)
 
 length-uncommitted : (l : List ℕ) (b : ℕ) (r : List ℕ) (c : ℕ) (d : List ℕ) (a n : ℕ) → length (uncommittedOf l b r c d a n) ≡ n
 unfolding uncommittedOf
 length-uncommitted l b r c d a zero = refl
-length-uncommitted l b r c d a (suc n) = ap suc (length-uncommitted l (b + 28) r (c + 16) d (a + 2 * getD r (c + 3) 0) n)
+length-uncommitted l b r c d a (suc n) = ap suc (length-uncommitted l (b + liveWidth) r (c + runWidth) d (a + 2 * getD r (c + 3) 0) n)
 
-live-numbers : (l : List ℕ) (b : ℕ) (r : List ℕ) (c : ℕ) (d : List ℕ) (a n b′ m : ℕ) → b′ ≡ b + 28 * n → numbers (uncommittedOf l b r c d a n) (waitingOf l b′ m) ≡ rowNumbers l b (n + m)
+live-numbers : (l : List ℕ) (b : ℕ) (r : List ℕ) (c : ℕ) (d : List ℕ) (a n b′ m : ℕ) → b′ ≡ b + liveWidth * n → numbers (uncommittedOf l b r c d a n) (waitingOf l b′ m) ≡ rowNumbers l b (n + m)
 unfolding uncommittedOf memberAt rowNumbers
 live-numbers l b r c d a zero b′ m e =
     let z : b′ ≡ b = omega arith in
@@ -53,7 +54,7 @@ live-numbers l b r c d a zero b′ m e =
     waiting-numbers l b′ m ∙ (λ i. rowNumbers l (z i) (y i))
 live-numbers l b r c d a (suc n) b′ m e =
     let z : suc (n + m) ≡ suc n + m = omega arith in
-    ap {B = List ℕ} (λ (x : List ℕ). getD l b 0 ∷ x) (live-numbers l (b + 28) r (c + 16) d (a + 2 * getD r (c + 3) 0) n b′ m (omega arith)) ∙ ap (rowNumbers l b) z
+    ap {B = List ℕ} (λ (x : List ℕ). getD l b 0 ∷ x) (live-numbers l (b + liveWidth) r (c + runWidth) d (a + 2 * getD r (c + 3) 0) n b′ m (omega arith)) ∙ ap (rowNumbers l b) z
 
 module _ (live runs undo : List ℕ) where
   front-number : (u n : ℕ) → front (λ (x : Uncommitted). eqb (x .number) n) (uncommittedOf live 0 runs 0 undo 0 u) ≡ frontIs u live n
@@ -91,10 +92,10 @@ module _ (σ : Scheme) (count largest u w : ℕ) (live runs undo : List ℕ) (v 
   unfolding rows viewOf memberAt fragmentAt
   cut =
       let n : ℕ = v .number in
-      let ns = live-numbers live 0 runs 0 undo 0 u (28 * u) w (omega arith) in
+      let ns = live-numbers live 0 runs 0 undo 0 u (liveWidth * u) w (omega arith) in
       let number = front-number live runs undo u n in
       let at = front-which live runs undo u n in
-      let many : length (uncommittedOf live 0 runs 0 undo 0 u) + length (waitingOf live (28 * u) w) ≡ u + w = omega (arith, length-uncommitted live 0 runs 0 undo 0 u, length-waiting live (28 * u) w) in
+      let many : length (uncommittedOf live 0 runs 0 undo 0 u) + length (waitingOf live (liveWidth * u) w) ≡ u + w = omega (arith, length-uncommitted live 0 runs 0 undo 0 u, length-waiting live (liveWidth * u) w) in
       λ i. firstOf
       (shapeRows count v cells room
       ++ (knownRows (isIn n (ns i)) fresh (number i)

@@ -12,6 +12,7 @@ use Rattle.model.specs.declared.Fragment.{Fragment}
 use Rattle.model.specs.declared.Event.{Event}
 use Rattle.model.specs.declared.Scheme.{Scheme}
 use Rattle.record.specs.View.{stateOf}
+use Rattle.record.specs.Widths.{liveWidth}
 
 abbrev pub callOf : Scheme → Event → Cells → List ℕ → Call
 callOf σ v cells room = record { scheme = σ; event = v; lent = cells; room = room }
@@ -24,7 +25,7 @@ behindFirst (r ∷ rs) = rs
 -- the numbers of n rows of live transactions, the first of which starts at b
 unfoldable pub rowNumbers : List ℕ → ℕ → ℕ → List ℕ
 rowNumbers l b zero = []
-rowNumbers l b (suc n) = getD l b 0 ∷ rowNumbers l (b + 28) n
+rowNumbers l b (suc n) = getD l b 0 ∷ rowNumbers l (b + liveWidth) n
 
 -- is the front, the first of u uncommitted ones, the transaction n
 abbrev pub frontIs : ℕ → List ℕ → ℕ → Bool

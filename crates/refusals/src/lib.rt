@@ -66,7 +66,7 @@ pub(crate) fn is_live(live: &[u32], uncommitted: u32, waiting: u32, number: u32)
     let n = uncommitted as usize + waiting as usize;
     let mut i: usize = 0;
     while i < n {
-        let other = operations::number_at(live, 28 * i);
+        let other = operations::number_at(live, record::LIVE_WORDS * i);
         if other == number {
             return true;
         }

@@ -11,13 +11,15 @@ use Rattle.model.specs.Transactions.{finished, Uncommitted, Waiting, undoList, 
 use Rattle.model.specs.Refusals.{every, storable, behind, ready, sound}
 use Rattle.model.specs.Demand.{Rises}
 use Rattle.model.specs.declared.Undo.{Undo}
-use Rattle.model.proofs.Chain.{All, all-map}
+use Rattle.model.proofs.Chain.{all-map}
 use Rattle.model.proofs.Tests.{both, and-left, and-right, every-append, every-first, every-rest}
-use Rattle.model.proofs.Sound.{cellInside, SoundOne, Stored, badFront, Sound, sound-parts, parts-sound}
+use Rattle.model.proofs.Sound.{sound-parts, parts-sound}
 use Rattle.operations.specs.Laid.{entriesOf}
 use Rattle.record.specs.View.{fragmentAt, waitingOf, memberAt, stateOf, uncommittedOf, viewOf}
 use Rattle.soundness.specs.Groups.{rowOk, liveFrom, frontOk, nextOk, behindFrom, membersOk, totalFrom, undoOk, groups}
 use Rattle.soundness.proofs.Words.{same, finished-words, Run, member-state, next-one, one-next, next-run, next-ran, front-run, front-good, front-one, one-front}
+use Rattle.model.specs.Parts.{All, cellInside, SoundOne, Stored, badFront, Sound}
+use Rattle.record.specs.Widths.{liveWidth, runWidth}
 
 abbrev Kept : ℕ → Uncommitted → Type 0
 Kept ct u = storable ct (u .first) ≡ true
@@ -30,7 +32,7 @@ Ones u = u .ran ≤ 1
 pub length-waiting : (l : List ℕ) (b n : ℕ) → length (waitingOf l b n) ≡ n
 unfolding waitingOf
 length-waiting l b zero = refl
-length-waiting l b (suc n) = ap suc (length-waiting l (b + 28) n)
+length-waiting l b (suc n) = ap suc (length-waiting l (b + liveWidth) n)
 
 entries-split : (l : List ℕ) (b m n : ℕ) → entriesOf l b (m + n) ≡ entriesOf l b m ++ entriesOf l (b + 2 * m) n
 unfolding entriesOf
@@ -47,15 +49,15 @@ module _ (live runs undo : List ℕ) where
   pub length-uncommitted : (b c d n : ℕ) → length (uncommittedOf live b runs c undo d n) ≡ n
   unfolding uncommittedOf
   length-uncommitted b c d zero = refl
-  length-uncommitted b c d (suc n) = ap suc (length-uncommitted (b + 28) (c + 16) (d + 2 * getD runs (c + 3) 0) n)
+  length-uncommitted b c d (suc n) = ap suc (length-uncommitted (b + liveWidth) (c + runWidth) (d + 2 * getD runs (c + 3) 0) n)
 
   undo-whole : (b c d n : ℕ) → undoList (uncommittedOf live b runs c undo d n) ≡ entriesOf undo d (totalFrom runs c n)
   unfolding uncommittedOf memberAt totalFrom entriesOf
   undo-whole b c d zero = refl
   undo-whole b c d (suc n) =
       let w : ℕ = getD runs (c + 3) 0 in
-      ap (λ (x : List Undo). entriesOf undo d (getD runs (c + 3) 0) ++ x) (undo-whole (b + 28) (c + 16) (d + 2 * w) n)
-      ∙ sym (entries-split undo d w (totalFrom runs (c + 16) n))
+      ap (λ (x : List Undo). entriesOf undo d (getD runs (c + 3) 0) ++ x) (undo-whole (b + liveWidth) (c + runWidth) (d + 2 * w) n)
+      ∙ sym (entries-split undo d w (totalFrom runs (c + runWidth) n))
 
   -- The live rows
 
@@ -64,18 +66,18 @@ module _ (live runs undo : List ℕ) where
     unfolding liveFrom rowOk waitingOf
     waiting-parts zero b low h = (leb-true low top h, tt)
     waiting-parts (suc n) b low h =
-        let r = and-left (rowOk ct live b low) (liveFrom top ct live (b + 28) n (getD live b 0)) h in
-        let p = waiting-parts n (b + 28) (getD live b 0) (and-right (rowOk ct live b low) (liveFrom top ct live (b + 28) n (getD live b 0)) h) in
+        let r = and-left (rowOk ct live b low) (liveFrom top ct live (b + liveWidth) n (getD live b 0)) h in
+        let p = waiting-parts n (b + liveWidth) (getD live b 0) (and-right (rowOk ct live b low) (liveFrom top ct live (b + liveWidth) n (getD live b 0)) h) in
         ((ltb-true low (getD live b 0) (and-left (ltb low (getD live b 0)) (storable ct (fragmentAt live b)) r), p .0), (and-right (ltb low (getD live b 0)) (storable ct (fragmentAt live b)) r, p .1))
 
     parts-waiting : (n b low : ℕ) → Rises low top (map (λ (w : Waiting). w .number) (waitingOf live b n)) → All (Stored ct) (waitingOf live b n) → liveFrom top ct live b n low ≡ true
     unfolding liveFrom rowOk waitingOf
     parts-waiting zero b low h k = le-leb low top h
     parts-waiting (suc n) b low h k =
-        both (rowOk ct live b low) (liveFrom top ct live (b + 28) n (getD live b 0)) (both (ltb low (getD live b 0)) (storable ct (fragmentAt live b)) (lt-ltb low (getD live b 0) (h .0)) (k .0)) (parts-waiting n (b + 28) (getD live b 0) (h .1) (k .1))
+        both (rowOk ct live b low) (liveFrom top ct live (b + liveWidth) n (getD live b 0)) (both (ltb low (getD live b 0)) (storable ct (fragmentAt live b)) (lt-ltb low (getD live b 0) (h .0)) (k .0)) (parts-waiting n (b + liveWidth) (getD live b 0) (h .1) (k .1))
 
     module _ (w : ℕ) where
-      pub live-parts : (n b c d e low : ℕ) → e ≡ b + 28 * n → liveFrom top ct live b (n + w) low ≡ true
+      pub live-parts : (n b c d e low : ℕ) → e ≡ b + liveWidth * n → liveFrom top ct live b (n + w) low ≡ true
           → Rises low top (numbers (uncommittedOf live b runs c undo d n) (waitingOf live e w)) × All (Kept ct) (uncommittedOf live b runs c undo d n) × All (Stored ct) (waitingOf live e w)
       unfolding liveFrom rowOk uncommittedOf memberAt
       live-parts zero b c d e low g h =
@@ -86,11 +88,11 @@ module _ (live runs undo : List ℕ) where
       live-parts (suc n) b c d e low g h =
           let y : suc (n + w) ≡ suc n + w = omega arith in
           let k : liveFrom top ct live b (suc (n + w)) low ≡ true = ap (λ (x : ℕ). liveFrom top ct live b x low) y ∙ h in
-          let r = and-left (rowOk ct live b low) (liveFrom top ct live (b + 28) (n + w) (getD live b 0)) k in
-          let p = live-parts n (b + 28) (c + 16) (d + 2 * getD runs (c + 3) 0) e (getD live b 0) (omega arith) (and-right (rowOk ct live b low) (liveFrom top ct live (b + 28) (n + w) (getD live b 0)) k) in
+          let r = and-left (rowOk ct live b low) (liveFrom top ct live (b + liveWidth) (n + w) (getD live b 0)) k in
+          let p = live-parts n (b + liveWidth) (c + runWidth) (d + 2 * getD runs (c + 3) 0) e (getD live b 0) (omega arith) (and-right (rowOk ct live b low) (liveFrom top ct live (b + liveWidth) (n + w) (getD live b 0)) k) in
           ((ltb-true low (getD live b 0) (and-left (ltb low (getD live b 0)) (storable ct (fragmentAt live b)) r), p .0), (and-right (ltb low (getD live b 0)) (storable ct (fragmentAt live b)) r, p .1), p .2)
 
-      pub parts-live : (n b c d e low : ℕ) → e ≡ b + 28 * n
+      pub parts-live : (n b c d e low : ℕ) → e ≡ b + liveWidth * n
           → Rises low top (numbers (uncommittedOf live b runs c undo d n) (waitingOf live e w)) → All (Kept ct) (uncommittedOf live b runs c undo d n) → All (Stored ct) (waitingOf live e w)
           → liveFrom top ct live b (n + w) low ≡ true
       unfolding liveFrom rowOk uncommittedOf memberAt
@@ -101,26 +103,26 @@ module _ (live runs undo : List ℕ) where
       parts-live (suc n) b c d e low g h k m =
           let y : suc n + w ≡ suc (n + w) = omega arith in
           ap (λ (x : ℕ). liveFrom top ct live b x low) y
-          ∙ both (rowOk ct live b low) (liveFrom top ct live (b + 28) (n + w) (getD live b 0)) (both (ltb low (getD live b 0)) (storable ct (fragmentAt live b)) (lt-ltb low (getD live b 0) (h .0)) (k .0))
-          (parts-live n (b + 28) (c + 16) (d + 2 * getD runs (c + 3) 0) e (getD live b 0) (omega arith) (h .1) (k .1) m)
+          ∙ both (rowOk ct live b low) (liveFrom top ct live (b + liveWidth) (n + w) (getD live b 0)) (both (ltb low (getD live b 0)) (storable ct (fragmentAt live b)) (lt-ltb low (getD live b 0) (h .0)) (k .0))
+          (parts-live n (b + liveWidth) (c + runWidth) (d + 2 * getD runs (c + 3) 0) e (getD live b 0) (omega arith) (h .1) (k .1) m)
 
   -- The uncommitted ones
 
   module _ (ct : ℕ) where
     behind-parts : (n b c d : ℕ) → behindFrom live b runs c n ≡ true → leb (getD runs (c + 1) 0) 2 ≡ true
-        → All (Kept ct) (uncommittedOf live (b + 28) runs (c + 16) undo d n)
-        → every (cellInside ct) (undoList (uncommittedOf live (b + 28) runs (c + 16) undo d n)) ≡ true
-        → All (SoundOne ct) (uncommittedOf live (b + 28) runs (c + 16) undo d n)
-        × All Ones (uncommittedOf live (b + 28) runs (c + 16) undo d n)
-        × ((u : Uncommitted) → u .state ≡ stateOf (getD runs (c + 1) 0) → ready (u ∷ uncommittedOf live (b + 28) runs (c + 16) undo d n) ≡ true)
+        → All (Kept ct) (uncommittedOf live (b + liveWidth) runs (c + runWidth) undo d n)
+        → every (cellInside ct) (undoList (uncommittedOf live (b + liveWidth) runs (c + runWidth) undo d n)) ≡ true
+        → All (SoundOne ct) (uncommittedOf live (b + liveWidth) runs (c + runWidth) undo d n)
+        × All Ones (uncommittedOf live (b + liveWidth) runs (c + runWidth) undo d n)
+        × ((u : Uncommitted) → u .state ≡ stateOf (getD runs (c + 1) 0) → ready (u ∷ uncommittedOf live (b + liveWidth) runs (c + runWidth) undo d n) ≡ true)
     unfolding behindFrom uncommittedOf
     behind-parts zero b c d h s k m = (tt, tt, λ u e. refl)
     behind-parts (suc n) b c d h s k m =
-        let b′ : ℕ = b + 28 in
-        let c′ : ℕ = c + 16 in
-        let d′ : ℕ = d + 2 * getD runs (c + 16 + 3) 0 in
+        let b′ : ℕ = b + liveWidth in
+        let c′ : ℕ = c + runWidth in
+        let d′ : ℕ = d + 2 * getD runs (c + runWidth + 3) 0 in
         let one : Uncommitted = memberAt live b′ runs c′ undo d in
-        let more : List Uncommitted = uncommittedOf live (b′ + 28) runs (c′ + 16) undo d′ n in
+        let more : List Uncommitted = uncommittedOf live (b′ + liveWidth) runs (c′ + runWidth) undo d′ n in
         let f : leb 1 (getD runs (c + 1) 0) ≡ true = and-left (leb 1 (getD runs (c + 1) 0)) (nextOk live b′ runs c′ && behindFrom live b′ runs c′ n) h in
         let h2 : (nextOk live b′ runs c′ && behindFrom live b′ runs c′ n) ≡ true = and-right (leb 1 (getD runs (c + 1) 0)) (nextOk live b′ runs c′ && behindFrom live b′ runs c′ n) h in
         let x : nextOk live b′ runs c′ ≡ true = and-left (nextOk live b′ runs c′) (behindFrom live b′ runs c′ n) h2 in
@@ -133,18 +135,18 @@ module _ (live runs undo : List ℕ) where
         )
 
     parts-behind : (n b c d : ℕ)
-        → All (SoundOne ct) (uncommittedOf live (b + 28) runs (c + 16) undo d n)
-        → All Ones (uncommittedOf live (b + 28) runs (c + 16) undo d n)
-        → (u : Uncommitted) → u .state ≡ stateOf (getD runs (c + 1) 0) → ready (u ∷ uncommittedOf live (b + 28) runs (c + 16) undo d n) ≡ true
+        → All (SoundOne ct) (uncommittedOf live (b + liveWidth) runs (c + runWidth) undo d n)
+        → All Ones (uncommittedOf live (b + liveWidth) runs (c + runWidth) undo d n)
+        → (u : Uncommitted) → u .state ≡ stateOf (getD runs (c + 1) 0) → ready (u ∷ uncommittedOf live (b + liveWidth) runs (c + runWidth) undo d n) ≡ true
         → behindFrom live b runs c n ≡ true
     unfolding behindFrom uncommittedOf
     parts-behind zero b c d s o u e h = refl
     parts-behind (suc n) b c d s o u e h =
-        let b′ : ℕ = b + 28 in
-        let c′ : ℕ = c + 16 in
-        let d′ : ℕ = d + 2 * getD runs (c + 16 + 3) 0 in
+        let b′ : ℕ = b + liveWidth in
+        let c′ : ℕ = c + runWidth in
+        let d′ : ℕ = d + 2 * getD runs (c + runWidth + 3) 0 in
         let one : Uncommitted = memberAt live b′ runs c′ undo d in
-        let more : List Uncommitted = uncommittedOf live (b′ + 28) runs (c′ + 16) undo d′ n in
+        let more : List Uncommitted = uncommittedOf live (b′ + liveWidth) runs (c′ + runWidth) undo d′ n in
         let f : (leb 1 (getD runs (c + 1) 0) && leb (getD runs (c + 1) 0) 2) ≡ true = sym (finished-words (getD runs (c + 1) 0)) ∙ sym (ap finished e) ∙ and-left (finished (u .state)) (ready (one ∷ more)) h in
         both (leb 1 (getD runs (c + 1) 0)) (nextOk live b′ runs c′ && behindFrom live b′ runs c′ n) (and-left (leb 1 (getD runs (c + 1) 0)) (leb (getD runs (c + 1) 0) 2) f)
         (both (nextOk live b′ runs c′) (behindFrom live b′ runs c′ n) (one-next live b′ runs c′ undo d ct (s .0) (o .0)) (parts-behind n b′ c′ d′ (s .1) (o .1) one (member-state live b′ runs c′ undo d) (and-right (finished (u .state)) (ready (one ∷ more)) h)))
@@ -161,7 +163,7 @@ module _ (live runs undo : List ℕ) where
     members-parts (suc n) h k m =
         let d′ : ℕ = 0 + 2 * getD runs 3 0 in
         let one : Uncommitted = memberAt live 0 runs 0 undo 0 in
-        let more : List Uncommitted = uncommittedOf live 28 runs 16 undo d′ n in
+        let more : List Uncommitted = uncommittedOf live liveWidth runs 16 undo d′ n in
         let f : frontOk live runs ≡ true = and-left (frontOk live runs) (behindFrom live 0 runs 0 n) h in
         let p = behind-parts n 0 0 d′ (and-right (frontOk live runs) (behindFrom live 0 runs 0 n) h) (front-run live runs undo f .state) (k .1) (every-rest (cellInside ct) (one .undo) (undoList more) m) in
         ((front-one live runs undo ct f (k .0) (every-first (cellInside ct) (one .undo) (undoList more) m), p .0), p .1, front-good live runs undo f, p .2 one (member-state live 0 runs 0 undo 0))
@@ -189,7 +191,7 @@ module _ (count largest uncommitted waiting : ℕ) (live runs undo : List ℕ) w
   us = uncommittedOf live 0 runs 0 undo 0 uncommitted
 
   abbrev ws : List Waiting
-  ws = waitingOf live (28 * uncommitted) waiting
+  ws = waitingOf live (liveWidth * uncommitted) waiting
 
   abbrev a1 : Bool
   a1 = leb count 4096
@@ -209,7 +211,7 @@ module _ (count largest uncommitted waiting : ℕ) (live runs undo : List ℕ) w
   abbrev a6 : Bool
   a6 = undoOk count undo 0 (totalFrom runs 0 uncommitted)
 
-  start : 28 * uncommitted ≡ 0 + 28 * uncommitted
+  start : liveWidth * uncommitted ≡ 0 + liveWidth * uncommitted
   start = omega arith
 
   to-sound : groups count largest uncommitted waiting live runs undo ≡ true → Sound count largest us ws
@@ -219,11 +221,11 @@ module _ (count largest uncommitted waiting : ℕ) (live runs undo : List ℕ) w
       let h4 : (((a1 && a2) && a3) && a4) ≡ true = and-left (((a1 && a2) && a3) && a4) a5 h5 in
       let h3 : ((a1 && a2) && a3) ≡ true = and-left ((a1 && a2) && a3) a4 h4 in
       let h2 : (a1 && a2) ≡ true = and-left (a1 && a2) a3 h3 in
-      let l = live-parts live runs undo largest count waiting uncommitted 0 0 0 (28 * uncommitted) 0 start (and-right ((a1 && a2) && a3) a4 h4) in
+      let l = live-parts live runs undo largest count waiting uncommitted 0 0 0 (liveWidth * uncommitted) 0 start (and-right ((a1 && a2) && a3) a4 h4) in
       let u : every (cellInside count) (undoList us) ≡ true = ap (every (cellInside count)) (undo-whole live runs undo 0 0 0 uncommitted) ∙ and-right ((((a1 && a2) && a3) && a4) && a5) a6 h in
       let m = members-parts live runs undo count uncommitted (and-right (((a1 && a2) && a3) && a4) a5 h5) (l .1) u in
       let lu : length us ≡ uncommitted = length-uncommitted live runs undo 0 0 0 uncommitted in
-      let lw : length ws ≡ waiting = length-waiting live (28 * uncommitted) waiting in
+      let lw : length ws ≡ waiting = length-waiting live (liveWidth * uncommitted) waiting in
       record {
         cells = leb-true count 4096 (and-left a1 a2 h2);
         sixteen = omega (arith, leb-true uncommitted 16 (and-right a1 a2 h2));
@@ -240,7 +242,7 @@ module _ (count largest uncommitted waiting : ℕ) (live runs undo : List ℕ) w
   unfolding groups undoOk
   of-sound s =
       let lu : length us ≡ uncommitted = length-uncommitted live runs undo 0 0 0 uncommitted in
-      let lw : length ws ≡ waiting = length-waiting live (28 * uncommitted) waiting in
+      let lw : length ws ≡ waiting = length-waiting live (liveWidth * uncommitted) waiting in
       let kept : All (Kept count) us = all-map (SoundOne count) (Kept count) (λ u o. o .stored) us (s .each) in
       both ((((a1 && a2) && a3) && a4) && a5) a6
       (both (((a1 && a2) && a3) && a4) a5
@@ -248,7 +250,7 @@ module _ (count largest uncommitted waiting : ℕ) (live runs undo : List ℕ) w
       (both (a1 && a2) a3
       (both a1 a2 (le-leb count 4096 (s .cells)) (le-leb uncommitted 16 (omega (arith, s .sixteen))))
       (le-leb (uncommitted + waiting) 64 (omega (arith, s .sixtyFour))))
-      (parts-live live runs undo largest count waiting uncommitted 0 0 0 (28 * uncommitted) 0 start (s .rises) kept (s .waiting)))
+      (parts-live live runs undo largest count waiting uncommitted 0 0 0 (liveWidth * uncommitted) 0 start (s .rises) kept (s .waiting)))
       (parts-members live runs undo count uncommitted (s .each) (s .ones) (s .front) (s .ready)))
       (sym (ap (every (cellInside count)) (undo-whole live runs undo 0 0 0 uncommitted)) ∙ inside-each live runs undo count us (s .each))
 

@@ -15,6 +15,7 @@ use Rattle.record.specs.View.{opAt, fragmentAt, numbersFrom}
 use Rattle.record.proofs.Rows.{numbers-snoc}
 use Rattle.soundness.specs.Groups.{isZero, opsFrom, storableOp, kindOk}
 use Rattle.soundness.proofs.Turns.{on, off}
+use Rattle.record.specs.Widths.{liveWidth}
 
 -- the eight operations of a fragment, by threes
 row-ops : (l : List ℕ) (at : ℕ) → fragmentAt l at .row ≡ opsFrom l (at + 4) 8
@@ -106,10 +107,10 @@ stored-by l at ct n e h =
 
 -- the same from each answer
 pub stored-is : (l : List ℕ) (at ct n : ℕ) → getD l (at + 3) 0 ≡ n → n ≤ 8 → (p q a z f k : Bool) → leb 1 n ≡ p → leb n 8 ≡ q → every (storableOp ct) (opsFrom l (at + 4) n) ≡ a
-    → every isZero (numbersFrom l (at + 4 + 3 * n) (at + 28 - (at + 4 + 3 * n))) ≡ z → leb (getD l (at + 1) 0) 3 ≡ f → kindOk (getD l (at + 1) 0) (getD l (at + 2) 0) ≡ k
+    → every isZero (numbersFrom l (at + 4 + 3 * n) (at + liveWidth - (at + 4 + 3 * n))) ≡ z → leb (getD l (at + 1) 0) 3 ≡ f → kindOk (getD l (at + 1) 0) (getD l (at + 2) 0) ≡ k
     → (p && q && a && z && f && k) ≡ storable ct (fragmentAt l at)
 stored-is l at ct n e h p q a z f k ep eq ea ez ef ek =
-    let w : 24 - 3 * n ≡ at + 28 - (at + 4 + 3 * n) = omega arith in
+    let w : 24 - 3 * n ≡ at + liveWidth - (at + 4 + 3 * n) = omega arith in
     sym (stored-by l at ct n e h ∙ (λ i. ep i && eq i && ea i && (ap (λ (x : ℕ). every isZero (numbersFrom l (at + 4 + 3 * n) x)) w ∙ ez) i && ef i && ek i))
 
 -- "operations not 1 to 8"

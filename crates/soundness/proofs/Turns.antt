@@ -9,6 +9,7 @@ use lib.Dec.{leb, ltb}
 use lib.ListN.{getD}
 use Rattle.operations.specs.Laid.{entriesOf}
 use Rattle.soundness.specs.Groups.{rowOk, liveFrom, nextOk, frontOk, behindFrom, membersOk, totalFrom, undoOk}
+use Rattle.record.specs.Widths.{liveWidth, runWidth}
 
 pub on : (a r w : Bool) → (a && r) ≡ w → a ≡ true → r ≡ w
 on a r w h e = ap (λ (x : Bool). x && r) (sym e) ∙ h
@@ -18,12 +19,12 @@ off a r w h e = ap (λ (x : Bool). x && r) (sym e) ∙ h
 
 module _ (largest cells : ℕ) (live : List ℕ) (b left low : ℕ) (whole : Bool) (inv : liveFrom largest cells live b left low ≡ whole) where
   module _ (more : 0 < left) where
-    live-next : (rowOk cells live b low && liveFrom largest cells live (b + 28) (left - 1) (getD live b 0)) ≡ whole
+    live-next : (rowOk cells live b low && liveFrom largest cells live (b + liveWidth) (left - 1) (getD live b 0)) ≡ whole
     unfolding liveFrom
     live-next = let e : suc (left - 1) ≡ left = omega arith in ap (λ (n : ℕ). liveFrom largest cells live b n low) e ∙ inv
 
-    pub live-on : (m : ℕ) → m ≡ getD live b 0 → rowOk cells live b low ≡ true → liveFrom largest cells live (b + 28) (left - 1) m ≡ whole
-    live-on m em e = ap (liveFrom largest cells live (b + 28) (left - 1)) em ∙ on (rowOk cells live b low) _ whole live-next e
+    pub live-on : (m : ℕ) → m ≡ getD live b 0 → rowOk cells live b low ≡ true → liveFrom largest cells live (b + liveWidth) (left - 1) m ≡ whole
+    live-on m em e = ap (liveFrom largest cells live (b + liveWidth) (left - 1)) em ∙ on (rowOk cells live b low) _ whole live-next e
 
     pub live-off : rowOk cells live b low ≡ false → false ≡ whole
     live-off e = off (rowOk cells live b low) _ whole live-next e
@@ -34,25 +35,25 @@ module _ (largest cells : ℕ) (live : List ℕ) (b left low : ℕ) (whole : Boo
 
 module _ (live : List ℕ) (b : ℕ) (runs : List ℕ) (c left : ℕ) (whole : Bool) (inv : behindFrom live b runs c left ≡ whole) where
   module _ (more : 0 < left) (s : ℕ) (es : s ≡ getD runs (c + 1) 0) where
-    behind-next : (leb 1 s && (nextOk live (b + 28) runs (c + 16) && behindFrom live (b + 28) runs (c + 16) (left - 1))) ≡ whole
+    behind-next : (leb 1 s && (nextOk live (b + liveWidth) runs (c + runWidth) && behindFrom live (b + liveWidth) runs (c + runWidth) (left - 1))) ≡ whole
     unfolding behindFrom
     behind-next =
         let e : suc (left - 1) ≡ left = omega arith in
-        ap (λ (x : ℕ). leb 1 x && (nextOk live (b + 28) runs (c + 16) && behindFrom live (b + 28) runs (c + 16) (left - 1))) es
+        ap (λ (x : ℕ). leb 1 x && (nextOk live (b + liveWidth) runs (c + runWidth) && behindFrom live (b + liveWidth) runs (c + runWidth) (left - 1))) es
         ∙ ap (behindFrom live b runs c) e ∙ inv
 
     pub behind-open : s < 1 → false ≡ whole
-    behind-open h = off (leb 1 s) (nextOk live (b + 28) runs (c + 16) && behindFrom live (b + 28) runs (c + 16) (left - 1)) whole behind-next (lt-leb 1 s h)
+    behind-open h = off (leb 1 s) (nextOk live (b + liveWidth) runs (c + runWidth) && behindFrom live (b + liveWidth) runs (c + runWidth) (left - 1)) whole behind-next (lt-leb 1 s h)
 
     module _ (h : 1 ≤ s) where
-      behind-mid : (nextOk live (b + 28) runs (c + 16) && behindFrom live (b + 28) runs (c + 16) (left - 1)) ≡ whole
-      behind-mid = on (leb 1 s) (nextOk live (b + 28) runs (c + 16) && behindFrom live (b + 28) runs (c + 16) (left - 1)) whole behind-next (le-leb 1 s h)
+      behind-mid : (nextOk live (b + liveWidth) runs (c + runWidth) && behindFrom live (b + liveWidth) runs (c + runWidth) (left - 1)) ≡ whole
+      behind-mid = on (leb 1 s) (nextOk live (b + liveWidth) runs (c + runWidth) && behindFrom live (b + liveWidth) runs (c + runWidth) (left - 1)) whole behind-next (le-leb 1 s h)
 
-      pub behind-on : nextOk live (b + 28) runs (c + 16) ≡ true → behindFrom live (b + 28) runs (c + 16) (left - 1) ≡ whole
-      behind-on e = on (nextOk live (b + 28) runs (c + 16)) _ whole behind-mid e
+      pub behind-on : nextOk live (b + liveWidth) runs (c + runWidth) ≡ true → behindFrom live (b + liveWidth) runs (c + runWidth) (left - 1) ≡ whole
+      behind-on e = on (nextOk live (b + liveWidth) runs (c + runWidth)) _ whole behind-mid e
 
-      pub behind-off : nextOk live (b + 28) runs (c + 16) ≡ false → false ≡ whole
-      behind-off e = off (nextOk live (b + 28) runs (c + 16)) _ whole behind-mid e
+      pub behind-off : nextOk live (b + liveWidth) runs (c + runWidth) ≡ false → false ≡ whole
+      behind-off e = off (nextOk live (b + liveWidth) runs (c + runWidth)) _ whole behind-mid e
 
   pub behind-end : left ≤ 0 → true ≡ whole
   unfolding behindFrom
@@ -68,11 +69,11 @@ module _ (live runs : List ℕ) (n : ℕ) where
   members-some h = let e : suc (n - 1) ≡ n = omega arith in ap (membersOk live runs) e
 
 module _ (runs : List ℕ) (c left sum whole : ℕ) (inv : sum + totalFrom runs c left ≡ whole) where
-  pub total-on : 0 < left → (w : ℕ) → w ≡ getD runs (c + 3) 0 → (sum + w) + totalFrom runs (c + 16) (left - 1) ≡ whole
+  pub total-on : 0 < left → (w : ℕ) → w ≡ getD runs (c + 3) 0 → (sum + w) + totalFrom runs (c + runWidth) (left - 1) ≡ whole
   unfolding totalFrom
   total-on more w ew =
       let e : suc (left - 1) ≡ left = omega arith in
-      let t : getD runs (c + 3) 0 + totalFrom runs (c + 16) (left - 1) ≡ totalFrom runs c left = ap (totalFrom runs c) e in
+      let t : getD runs (c + 3) 0 + totalFrom runs (c + runWidth) (left - 1) ≡ totalFrom runs c left = ap (totalFrom runs c) e in
       omega arith
 
   pub total-end : left ≤ 0 → sum ≡ whole

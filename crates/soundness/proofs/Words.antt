@@ -11,11 +11,11 @@ use Rattle.model.specs.Operations.{Outcome, multi}
 use Rattle.model.specs.Transactions.{finished, holds}
 use Rattle.model.specs.Refusals.{every, storable, fits, isState, isReply}
 use Rattle.model.proofs.Tests.{both, and-left, and-right}
-use Rattle.model.proofs.Sound.{cellInside, SoundOne, badFront}
 use Rattle.operations.specs.Laid.{entriesOf}
 use Rattle.record.specs.View.{fragmentAt, stateOf, replyOf, numbersFrom, memberAt}
 use Rattle.record.proofs.Rows.{length-numbers}
 use Rattle.soundness.specs.Groups.{replyOk, runOk, multiAt, frontOk, nextOk}
+use Rattle.model.specs.Parts.{cellInside, SoundOne, badFront}
 
 -- Tests of Booleans
 

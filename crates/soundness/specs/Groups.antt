@@ -10,6 +10,7 @@ use Rattle.model.specs.declared.Fragment.{Fragment}
 use Rattle.model.specs.declared.Undo.{Undo}
 use Rattle.operations.specs.Laid.{entriesOf}
 use Rattle.record.specs.View.{opAt, fragmentAt}
+use Rattle.record.specs.Widths.{liveWidth, runWidth}
 
 abbrev pub isZero : ℕ → Bool
 isZero n = eqb n 0
@@ -34,7 +35,7 @@ rowOk cells live b low = ltb low (getD live b 0) && storable cells (fragmentAt l
 -- n live rows, the first of which starts at b, behind the number `low`
 unfoldable pub liveFrom : ℕ → ℕ → List ℕ → ℕ → ℕ → ℕ → Bool
 liveFrom largest cells live b zero low = leb low largest
-liveFrom largest cells live b (suc n) low = rowOk cells live b low && liveFrom largest cells live (b + 28) n (getD live b 0)
+liveFrom largest cells live b (suc n) low = rowOk cells live b low && liveFrom largest cells live (b + liveWidth) n (getD live b 0)
 
 -- the run that starts at c: its reply
 unfoldable pub replyOk : List ℕ → ℕ → Bool
@@ -60,7 +61,7 @@ nextOk live b runs c = runOk 1 runs c && (multiAt live b || eqb (getD runs (c + 
 -- n ones behind the one whose row starts at b and whose run at c, each behind a finished one
 unfoldable pub behindFrom : List ℕ → ℕ → List ℕ → ℕ → ℕ → Bool
 behindFrom live b runs c zero = true
-behindFrom live b runs c (suc n) = leb 1 (getD runs (c + 1) 0) && (nextOk live (b + 28) runs (c + 16) && behindFrom live (b + 28) runs (c + 16) n)
+behindFrom live b runs c (suc n) = leb 1 (getD runs (c + 1) 0) && (nextOk live (b + liveWidth) runs (c + runWidth) && behindFrom live (b + liveWidth) runs (c + runWidth) n)
 
 -- n uncommitted ones
 unfoldable pub membersOk : List ℕ → List ℕ → ℕ → Bool
@@ -70,7 +71,7 @@ membersOk live runs (suc n) = frontOk live runs && behindFrom live 0 runs 0 n
 -- how many undo entries n runs own, the first of which starts at c
 unfoldable pub totalFrom : List ℕ → ℕ → ℕ → ℕ
 totalFrom runs c zero = 0
-totalFrom runs c (suc n) = getD runs (c + 3) 0 + totalFrom runs (c + 16) n
+totalFrom runs c (suc n) = getD runs (c + 3) 0 + totalFrom runs (c + runWidth) n
 
 abbrev pub cellUnder : ℕ → Undo → Bool
 cellUnder cells x = ltb (x .cell) cells

@@ -1,5 +1,6 @@
 // Refusal 1 of document 01: whether a record of any words is sound. Each walk over a row of words asks what it can of one row at a time; every
 // function is total, and a read past a row's end gives 0.
+ghost use Rattle.record.specs.Widths.{liveWidth};
 ghost use mathlib.Core.Path.{_≡_};
 ghost use Prim.Native.Nat.{_+_, _*_, _-_, _≤_, max};
 ghost use lib.ListN.{length};
@@ -85,7 +86,7 @@ pub(crate) fn kind_ok(flags: u32, coordinator: u32) -> bool
 
 // "a stored fragment that 4 or 5 would refuse", all its words there: asked where they stand, with no fragment made of them.
 pub(crate) fn storable_in(live: &[u32], at: usize, cells: u32) -> bool
-    requires { ⌜ at + 28 ≤ length (now live) ⌝ }
+    requires { ⌜ at + liveWidth ≤ length (now live) ⌝ }
     ensures { λ r. ⌜ r ≡ storable cells (fragmentAt (now (live .entry)) at) ⌝ }
 {
     let count = live[at + 3];
@@ -99,7 +100,7 @@ pub(crate) fn storable_in(live: &[u32], at: usize, cells: u32) -> bool
     if !used_ok(live, at + 4, n, cells) {
         return false;
     }
-    if !all_zero(live, at + 4 + 3 * n, at + 28) {
+    if !all_zero(live, at + 4 + 3 * n, at + record::LIVE_WORDS) {
         return false;
     }
     let flags = live[at + 1];
@@ -115,7 +116,7 @@ pub(crate) fn is_storable(live: &[u32], b: u32, cells: u32) -> bool
     ensures { λ r. ⌜ r ≡ storable cells (fragmentAt (now (live .entry)) b) ⌝ }
 {
     let at = b as usize;
-    if at + 28 <= live.len() {
+    if at + record::LIVE_WORDS <= live.len() {
         return storable_in(live, at, cells);
     }
     let f = record::fragment_at(live, b);
@@ -149,7 +150,7 @@ pub(crate) fn live_ok(live: &[u32], n: u32, largest: u32, cells: u32) -> bool
             return false;
         }
         low = operations::number_at(live, b as usize);
-        b = b + 28;
+        b = b + record::LIVE_WIDTH;
         left = left - 1;
     }
     low <= largest
@@ -246,8 +247,8 @@ pub(crate) fn behind_ok(live: &[u32], runs: &[u32], n: u32) -> bool
         if state < 1 {
             return false;
         }
-        b = b + 28;
-        c = c + 16;
+        b = b + record::LIVE_WORDS;
+        c = c + record::RUN_WORDS;
         if !next_ok(live, b, runs, c) {
             return false;
         }
@@ -281,7 +282,7 @@ pub(crate) fn total(runs: &[u32], n: u32) -> usize
     while 0 < left {
         let entries = operations::number_at(runs, c + 3);
         sum = sum + entries as usize;
-        c = c + 16;
+        c = c + record::RUN_WORDS;
         left = left - 1;
     }
     sum

@@ -15,8 +15,7 @@ use Rattle.model.specs.Steps.{requeued}
 use Rattle.model.specs.Refusals.{isState, isReply, fits, sound}
 use Rattle.model.specs.declared.Undo.{Undo}
 use Rattle.model.proofs.Tests.{and-left, and-right}
-use Rattle.model.proofs.Chain.{All}
-use Rattle.model.proofs.Sound.{SoundOne, Sound, sound-parts, entries-most}
+use Rattle.model.proofs.Sound.{sound-parts, entries-most}
 use Rattle.operations.specs.Laid.{padded, flat, entriesOf}
 use Rattle.record.specs.Words.{rowWords, allRows, stateWord, replyWord, heldOutcome, outcomeWords, runWords, allRuns, liveRows}
 use Rattle.record.specs.View.{fragmentAt, waitingOf, numbersFrom, zeros, stateOf, replyOf, memberAt, uncommittedOf, viewOf}
@@ -24,6 +23,8 @@ use Rattle.record.proofs.Rows.{length-numbers, numbers-same, getD-numbers, getD
 use Rattle.tidy.specs.Runs.{used, tidyRun, tidyRuns, entriesFrom}
 use Rattle.tidy.specs.Tidied.{Canonical}
 use Rattle.tidy.proofs.Loops.{used-sent, used-held, used-most}
+use Rattle.model.specs.Parts.{All, SoundOne, Sound}
+use Rattle.record.specs.Widths.{liveWidth, runWidth, liveLength, runsLength, undoLength}
 
 -- Numbers of a row
 
@@ -43,29 +44,29 @@ numbers-take l n h =
 
 -- The live row
 
-row-at : (l : List ℕ) (b : ℕ) → rowWords (getD l b 0) (fragmentAt l b) ≡ numbersFrom l b 28
+row-at : (l : List ℕ) (b : ℕ) → rowWords (getD l b 0) (fragmentAt l b) ≡ numbersFrom l b liveWidth
 unfolding rowWords fragmentAt numbersFrom
 row-at l b = simp add-assoc
 
-rows-at : (l : List ℕ) (b n : ℕ) → allRows (waitingOf l b n) ≡ numbersFrom l b (28 * n)
+rows-at : (l : List ℕ) (b n : ℕ) → allRows (waitingOf l b n) ≡ numbersFrom l b (liveWidth * n)
 unfolding allRows waitingOf numbersFrom
-rows-at l b zero = let z : 0 ≡ 28 * 0 = omega arith in ap (numbersFrom l b) z
+rows-at l b zero = let z : 0 ≡ liveWidth * 0 = omega arith in ap (numbersFrom l b) z
 rows-at l b (suc n) =
-    let z : 28 * suc n ≡ 28 + 28 * n = omega arith in
-    (λ i. row-at l b i ++ rows-at l (b + 28) n i) ∙ sym (numbers-add l b 28 (28 * n)) ∙ ap (numbersFrom l b) (sym z)
+    let z : liveWidth * suc n ≡ liveWidth + liveWidth * n = omega arith in
+    (λ i. row-at l b i ++ rows-at l (b + liveWidth) n i) ∙ sym (numbers-add l b liveWidth (liveWidth * n)) ∙ ap (numbersFrom l b) (sym z)
 
-waiting-add : (l : List ℕ) (b m n : ℕ) → waitingOf l b (m + n) ≡ waitingOf l b m ++ waitingOf l (b + 28 * m) n
+waiting-add : (l : List ℕ) (b m n : ℕ) → waitingOf l b (m + n) ≡ waitingOf l b m ++ waitingOf l (b + liveWidth * m) n
 unfolding waitingOf
-waiting-add l b zero n = let z : 0 + n ≡ n = omega arith in let y : b ≡ b + 28 * 0 = omega arith in λ i. waitingOf l (y i) (z i)
+waiting-add l b zero n = let z : 0 + n ≡ n = omega arith in let y : b ≡ b + liveWidth * 0 = omega arith in λ i. waitingOf l (y i) (z i)
 waiting-add l b (suc m) n =
     let s : suc m + n ≡ suc (m + n) = omega arith in
-    let p : b + 28 + 28 * m ≡ b + 28 * suc m = omega arith in
-    ap (waitingOf l b) s ∙ ap {B = List Waiting} (λ (x : List Waiting). record { number = getD l b 0; fragment = fragmentAt l b } ∷ x) (waiting-add l (b + 28) m n ∙ ap (λ (x : ℕ). waitingOf l (b + 28) m ++ waitingOf l x n) p)
+    let p : b + liveWidth + liveWidth * m ≡ b + liveWidth * suc m = omega arith in
+    ap (waitingOf l b) s ∙ ap {B = List Waiting} (λ (x : List Waiting). record { number = getD l b 0; fragment = fragmentAt l b } ∷ x) (waiting-add l (b + liveWidth) m n ∙ ap (λ (x : ℕ). waitingOf l (b + liveWidth) m ++ waitingOf l x n) p)
 
 waiting-length : (l : List ℕ) (b n : ℕ) → length (waitingOf l b n) ≡ n
 unfolding waitingOf
 waiting-length l b zero = refl
-waiting-length l b (suc n) = ap suc (waiting-length l (b + 28) n)
+waiting-length l b (suc n) = ap suc (waiting-length l (b + liveWidth) n)
 
 -- Entries
 
@@ -96,20 +97,20 @@ module _ (live runs undo : List ℕ) where
   members-length : (b c d n : ℕ) → length (uncommittedOf live b runs c undo d n) ≡ n
   unfolding uncommittedOf
   members-length b c d zero = refl
-  members-length b c d (suc n) = ap suc (members-length (b + 28) (c + 16) (d + 2 * getD runs (c + 3) 0) n)
+  members-length b c d (suc n) = ap suc (members-length (b + liveWidth) (c + runWidth) (d + 2 * getD runs (c + 3) 0) n)
 
   members-requeued : (b c d n : ℕ) → map requeued (uncommittedOf live b runs c undo d n) ≡ waitingOf live b n
   unfolding uncommittedOf waitingOf memberAt
   members-requeued b c d zero = refl
   members-requeued b c d (suc n) =
-      ap {B = List Waiting} (λ (x : List Waiting). record { number = getD live b 0; fragment = fragmentAt live b } ∷ x) (members-requeued (b + 28) (c + 16) (d + 2 * getD runs (c + 3) 0) n)
+      ap {B = List Waiting} (λ (x : List Waiting). record { number = getD live b 0; fragment = fragmentAt live b } ∷ x) (members-requeued (b + liveWidth) (c + runWidth) (d + 2 * getD runs (c + 3) 0) n)
 
   members-undo : (b c d n : ℕ) → undoList (uncommittedOf live b runs c undo d n) ≡ entriesOf undo d (entriesFrom runs c n)
   unfolding uncommittedOf memberAt entriesFrom entriesOf
   members-undo b c d zero = refl
   members-undo b c d (suc n) =
       let k : ℕ = getD runs (c + 3) 0 in
-      ap (λ (x : List Undo). entriesOf undo d k ++ x) (members-undo (b + 28) (c + 16) (d + 2 * k) n) ∙ sym (entries-add undo d k (entriesFrom runs (c + 16) n))
+      ap (λ (x : List Undo). entriesOf undo d k ++ x) (members-undo (b + liveWidth) (c + runWidth) (d + 2 * k) n) ∙ sym (entries-add undo d k (entriesFrom runs (c + runWidth) n))
 
 -- Stores into a row
 
@@ -127,40 +128,40 @@ numbers-sets l i (a ∷ ws) h =
     let rest : numbersFrom row (i + 1) (length ws) ≡ ws = ap (λ (x : ℕ). numbersFrom row x (length ws)) s ∙ numbers-sets (set l i a) (suc i) ws (omega (arith, length-set l i a)) in
     λ j. first j ∷ rest j
 
-zeros-at : (b n : ℕ) → numbersFrom (replicate 16 0) b n ≡ zeros n
+zeros-at : (b n : ℕ) → numbersFrom (replicate runWidth 0) b n ≡ zeros n
 unfolding numbersFrom padded
 zeros-at b zero = refl
-zeros-at b (suc n) = λ j. getD-padded 16 [] b j ∷ zeros-at (b + 1) n j
+zeros-at b (suc n) = λ j. getD-padded runWidth [] b j ∷ zeros-at (b + 1) n j
 
 -- One run tidied
 
 module _ (row : List ℕ) (c : ℕ) where
-  blanks-length : length (numbersFrom (replicate 16 0) 0 (16 - used row c)) ≡ 16 - used row c
-  blanks-length = length-numbers (replicate 16 0) 0 (16 - used row c)
+  blanks-length : length (numbersFrom (replicate runWidth 0) 0 (runWidth - used row c)) ≡ runWidth - used row c
+  blanks-length = length-numbers (replicate runWidth 0) 0 (runWidth - used row c)
 
   run-length : length (tidyRun row c) ≡ length row
   unfolding tidyRun
-  run-length = length-sets row (c + used row c) (numbersFrom (replicate 16 0) 0 (16 - used row c))
+  run-length = length-sets row (c + used row c) (numbersFrom (replicate runWidth 0) 0 (runWidth - used row c))
 
   run-before : (x : ℕ) → x < c → getD (tidyRun row c) x 0 ≡ getD row x 0
   unfolding tidyRun
-  run-before x h = sets-before row (c + used row c) (numbersFrom (replicate 16 0) 0 (16 - used row c)) x (omega arith)
+  run-before x h = sets-before row (c + used row c) (numbersFrom (replicate runWidth 0) 0 (runWidth - used row c)) x (omega arith)
 
-  run-after : (x : ℕ) → c + 16 ≤ x → getD (tidyRun row c) x 0 ≡ getD row x 0
+  run-after : (x : ℕ) → c + runWidth ≤ x → getD (tidyRun row c) x 0 ≡ getD row x 0
   unfolding tidyRun
-  run-after x h = getD-sets-after row (c + used row c) (numbersFrom (replicate 16 0) 0 (16 - used row c)) x (omega (arith, blanks-length, used-most row c))
+  run-after x h = getD-sets-after row (c + used row c) (numbersFrom (replicate runWidth 0) 0 (runWidth - used row c)) x (omega (arith, blanks-length, used-most row c))
 
-  run-numbers : c + 16 ≤ length row → numbersFrom (tidyRun row c) c 16 ≡ numbersFrom row c (used row c) ++ zeros (16 - used row c)
+  run-numbers : c + runWidth ≤ length row → numbersFrom (tidyRun row c) c runWidth ≡ numbersFrom row c (used row c) ++ zeros (runWidth - used row c)
   unfolding tidyRun
   run-numbers h =
       let k : ℕ = used row c in
-      let z : List ℕ = numbersFrom (replicate 16 0) 0 (16 - k) in
+      let z : List ℕ = numbersFrom (replicate runWidth 0) 0 (runWidth - k) in
       let new : List ℕ = sets row (c + k) z in
-      let s : 16 ≡ k + (16 - k) = omega (arith, used-most row c) in
+      let s : runWidth ≡ k + (runWidth - k) = omega (arith, used-most row c) in
       let first : numbersFrom new c k ≡ numbersFrom row c k = numbers-same new row c c k (λ x hx. sets-before row (c + k) z (c + x) (omega arith)) in
-      let rest : numbersFrom new (c + k) (16 - k) ≡ zeros (16 - k) =
-      ap (numbersFrom new (c + k)) (sym blanks-length) ∙ numbers-sets row (c + k) z (omega (arith, blanks-length, used-most row c)) ∙ zeros-at 0 (16 - k) in
-      ap (numbersFrom new c) s ∙ numbers-add new c k (16 - k) ∙ (λ j. first j ++ rest j)
+      let rest : numbersFrom new (c + k) (runWidth - k) ≡ zeros (runWidth - k) =
+      ap (numbersFrom new (c + k)) (sym blanks-length) ∙ numbers-sets row (c + k) z (omega (arith, blanks-length, used-most row c)) ∙ zeros-at 0 (runWidth - k) in
+      ap (numbersFrom new c) s ∙ numbers-add new c k (runWidth - k) ∙ (λ j. first j ++ rest j)
 
 -- What a sound member's run holds
 
@@ -174,10 +175,10 @@ state-word n = go (eqb n 0) (eqb n 1) (eqb n 2) refl refl refl
     go false false false ea eb ec h = absurd (true≢false (sym h))
 
 -- numbers in eight places, and two zeros
-numbers-end : (ns : List ℕ) (n : ℕ) → length ns ≡ n → n ≤ 8 → padded 8 ns ++ (0 ∷ 0 ∷ []) ≡ ns ++ zeros (16 - (6 + n))
+numbers-end : (ns : List ℕ) (n : ℕ) → length ns ≡ n → n ≤ 8 → padded 8 ns ++ (0 ∷ 0 ∷ []) ≡ ns ++ zeros (runWidth - (6 + n))
 unfolding padded
 numbers-end ns n l h =
-    let m : 8 - length ns + 2 ≡ 16 - (6 + n) = omega arith in
+    let m : 8 - length ns + 2 ≡ runWidth - (6 + n) = omega arith in
     append-assoc ns (zeros (8 - length ns)) (zeros 2) ∙ ap (λ (x : List ℕ). ns ++ x) (replicate-append-replicate (8 - length ns) 2 0 ∙ ap zeros m)
 
 module _ (live : List ℕ) (b : ℕ) (runs : List ℕ) (c : ℕ) (undo : List ℕ) (d : ℕ) where
@@ -188,7 +189,7 @@ module _ (live : List ℕ) (b : ℕ) (runs : List ℕ) (c : ℕ) (undo : List �
   before r = getD runs c 0 ∷ stateWord (stateOf (getD runs (c + 1) 0)) ∷ replyWord r ∷ length (entriesOf undo d (getD runs (c + 3) 0)) ∷ outcomeWords (heldOutcome r) ++ (0 ∷ 0 ∷ [])
 
   abbrev after : ℕ → List ℕ
-  after k = numbersFrom runs c k ++ zeros (16 - k)
+  after k = numbersFrom runs c k ++ zeros (runWidth - k)
 
   two : c + 2 ≡ c + 1 + 1
   two = omega arith
@@ -222,13 +223,13 @@ module _ (live : List ℕ) (b : ℕ) (runs : List ℕ) (c : ℕ) (undo : List �
       let r : 1 ≡ getD runs (c + 1 + 1) 0 = sym e ∙ ap (λ (x : ℕ). getD runs x 0) two in
       let p : getD runs (c + 4) 0 ≡ getD runs (c + 1 + 1 + 1 + 1) 0 = ap (λ (x : ℕ). getD runs x 0) four in
       let q : length ns ≡ getD runs (c + 1 + 1 + 1 + 1 + 1) 0 = l ∙ ap (λ (x : ℕ). getD runs x 0) five in
-      let t : padded 8 ns ++ (0 ∷ 0 ∷ []) ≡ ns ++ zeros (16 - (6 + n)) = numbers-end ns n l h in
+      let t : padded 8 ns ++ (0 ∷ 0 ∷ []) ≡ ns ++ zeros (runWidth - (6 + n)) = numbers-end ns n l h in
       let u : used runs c ≡ 6 + n = used-held runs c e ∙ omega arith in
-      let split : numbersFrom runs c 6 ++ (ns ++ zeros (16 - (6 + n))) ≡ after (6 + n) =
-      sym (append-assoc (numbersFrom runs c 6) ns (zeros (16 - (6 + n)))) ∙ ap (λ (x : List ℕ). x ++ zeros (16 - (6 + n))) (sym (numbers-add runs c 6 n)) in
+      let split : numbersFrom runs c 6 ++ (ns ++ zeros (runWidth - (6 + n))) ≡ after (6 + n) =
+      sym (append-assoc (numbersFrom runs c 6) ns (zeros (runWidth - (6 + n)))) ∙ ap (λ (x : List ℕ). x ++ zeros (runWidth - (6 + n))) (sym (numbers-add runs c 6 n)) in
       (λ j. getD runs c 0 ∷ s j ∷ r j ∷ entries j ∷ p j ∷ q j ∷ t j) ∙ split ∙ ap after (sym u)
 
-  member-words : (ct : ℕ) → SoundOne ct (memberAt live b runs c undo d) → runWords (memberAt live b runs c undo d) ≡ numbersFrom runs c (used runs c) ++ zeros (16 - used runs c)
+  member-words : (ct : ℕ) → SoundOne ct (memberAt live b runs c undo d) → runWords (memberAt live b runs c undo d) ≡ numbersFrom runs c (used runs c) ++ zeros (runWidth - used runs c)
   unfolding runWords memberAt
   member-words ct o = go (eqb w 0) (eqb w 1) refl refl (and-right (isState (stateOf (getD runs (c + 1) 0))) (isReply (replyOf w held)) (o .read)) (o .fits)
     where
@@ -251,12 +252,12 @@ module _ (live : List ℕ) (b : ℕ) (runs : List ℕ) (c : ℕ) (undo : List �
 runs-before : (row : List ℕ) (c n x : ℕ) → x < c → getD (tidyRuns row c n) x 0 ≡ getD row x 0
 unfolding tidyRuns
 runs-before row c zero x h = refl
-runs-before row c (suc n) x h = runs-before (tidyRun row c) (c + 16) n x (omega arith) ∙ run-before row c x h
+runs-before row c (suc n) x h = runs-before (tidyRun row c) (c + runWidth) n x (omega arith) ∙ run-before row c x h
 
 runs-length : (row : List ℕ) (c n : ℕ) → length (tidyRuns row c n) ≡ length row
 unfolding tidyRuns
 runs-length row c zero = refl
-runs-length row c (suc n) = runs-length (tidyRun row c) (c + 16) n ∙ run-length row c
+runs-length row c (suc n) = runs-length (tidyRun row c) (c + runWidth) n ∙ run-length row c
 
 -- they agree from c on
 abbrev Same : List ℕ → List ℕ → ℕ → Type 0
@@ -270,22 +271,22 @@ used-same row runs c f =
     λ j. pick (eqb (a j) 1) (6 + min (b j) 8) 4
 
 module _ (ct : ℕ) (live runs undo : List ℕ) where
-  runs-at : (row : List ℕ) (b c d n : ℕ) → Same row runs c → c + 16 * n ≤ length row → All (SoundOne ct) (uncommittedOf live b runs c undo d n)
-      → numbersFrom (tidyRuns row c n) c (16 * n) ≡ allRuns (uncommittedOf live b runs c undo d n)
+  runs-at : (row : List ℕ) (b c d n : ℕ) → Same row runs c → c + runWidth * n ≤ length row → All (SoundOne ct) (uncommittedOf live b runs c undo d n)
+      → numbersFrom (tidyRuns row c n) c (runWidth * n) ≡ allRuns (uncommittedOf live b runs c undo d n)
   unfolding tidyRuns numbersFrom allRuns uncommittedOf
-  runs-at row b c d zero f h s = let z : 16 * 0 ≡ 0 = omega arith in ap (numbersFrom row c) z
+  runs-at row b c d zero f h s = let z : runWidth * 0 ≡ 0 = omega arith in ap (numbersFrom row c) z
   runs-at row b c d (suc n) f h s =
-      let z : 16 * suc n ≡ 16 + 16 * n = omega arith in
+      let z : runWidth * suc n ≡ runWidth + runWidth * n = omega arith in
       let new : List ℕ = tidyRun row c in
-      let all : List ℕ = tidyRuns new (c + 16) n in
+      let all : List ℕ = tidyRuns new (c + runWidth) n in
       let k : ℕ = used runs c in
       let same : numbersFrom row c k ≡ numbersFrom runs c k = numbers-same row runs c c k (λ x hx. f (c + x) (omega arith)) in
-      let first : numbersFrom all c 16 ≡ runWords (memberAt live b runs c undo d) =
-      numbers-same all new c c 16 (λ x hx. runs-before new (c + 16) n (c + x) (omega arith)) ∙ run-numbers row c (omega arith)
-      ∙ ap (λ (x : ℕ). numbersFrom row c x ++ zeros (16 - x)) (used-same row runs c f) ∙ ap (λ (x : List ℕ). x ++ zeros (16 - k)) same ∙ sym (member-words live b runs c undo d ct (s .0)) in
-      let rest : numbersFrom all (c + 16) (16 * n) ≡ allRuns (uncommittedOf live (b + 28) runs (c + 16) undo (d + 2 * getD runs (c + 3) 0) n) =
-      runs-at new (b + 28) (c + 16) (d + 2 * getD runs (c + 3) 0) n (λ x hx. run-after row c x hx ∙ f x (omega arith)) (omega (arith, run-length row c)) (s .1) in
-      ap (numbersFrom all c) z ∙ numbers-add all c 16 (16 * n) ∙ (λ j. first j ++ rest j)
+      let first : numbersFrom all c runWidth ≡ runWords (memberAt live b runs c undo d) =
+      numbers-same all new c c runWidth (λ x hx. runs-before new (c + runWidth) n (c + x) (omega arith)) ∙ run-numbers row c (omega arith)
+      ∙ ap (λ (x : ℕ). numbersFrom row c x ++ zeros (runWidth - x)) (used-same row runs c f) ∙ ap (λ (x : List ℕ). x ++ zeros (runWidth - k)) same ∙ sym (member-words live b runs c undo d ct (s .0)) in
+      let rest : numbersFrom all (c + runWidth) (runWidth * n) ≡ allRuns (uncommittedOf live (b + liveWidth) runs (c + runWidth) undo (d + 2 * getD runs (c + 3) 0) n) =
+      runs-at new (b + liveWidth) (c + runWidth) (d + 2 * getD runs (c + 3) 0) n (λ x hx. run-after row c x hx ∙ f x (omega arith)) (omega (arith, run-length row c)) (s .1) in
+      ap (numbersFrom all c) z ∙ numbers-add all c runWidth (runWidth * n) ∙ (λ j. first j ++ rest j)
 
 -- The whole record
 
@@ -294,7 +295,7 @@ module _ (count largest u w : ℕ) (live runs undo : List ℕ) where
   us = uncommittedOf live 0 runs 0 undo 0 u
 
   abbrev ws : List Waiting
-  ws = waitingOf live (28 * u) w
+  ws = waitingOf live (liveWidth * u) w
 
   entries-are : entriesFrom runs 0 u ≡ length (undoList us)
   entries-are = sym (ap length (members-undo live runs undo 0 0 0 u) ∙ entries-length undo 0 (entriesFrom runs 0 u))
@@ -308,29 +309,29 @@ module _ (count largest u w : ℕ) (live runs undo : List ℕ) where
     few-uncommitted = omega (arith, members-length live runs undo 0 0 0 u, parts .sixteen)
 
     pub few-live : u + w ≤ 64
-    few-live = omega (arith, members-length live runs undo 0 0 0 u, waiting-length live (28 * u) w, parts .sixtyFour)
+    few-live = omega (arith, members-length live runs undo 0 0 0 u, waiting-length live (liveWidth * u) w, parts .sixtyFour)
 
     pub few-entries : entriesFrom runs 0 u ≤ 184
     few-entries = omega (arith, entries-are, entries-most count us (parts .sixteen) (parts .each) (parts .ones))
 
-    live-rows : 28 * (u + w) ≤ length live → take (28 * (u + w)) live ≡ allRows (liveRows us ws)
+    live-rows : liveWidth * (u + w) ≤ length live → take (liveWidth * (u + w)) live ≡ allRows (liveRows us ws)
     live-rows h =
-        let z : 28 * u ≡ 0 + 28 * u = omega arith in
-        numbers-take live (28 * (u + w)) h ∙ sym (rows-at live 0 (u + w))
+        let z : liveWidth * u ≡ 0 + liveWidth * u = omega arith in
+        numbers-take live (liveWidth * (u + w)) h ∙ sym (rows-at live 0 (u + w))
         ∙ ap allRows (waiting-add live 0 u w ∙ (λ j. sym (members-requeued live runs undo 0 0 0 u) j ++ waitingOf live (sym z j) w))
 
-    run-rows : 16 * u ≤ length runs → take (16 * u) (tidyRuns runs 0 u) ≡ allRuns us
-    run-rows h = numbers-take (tidyRuns runs 0 u) (16 * u) (omega (arith, runs-length runs 0 u)) ∙ runs-at count live runs undo runs 0 0 0 u (λ x k. refl) (omega arith) (parts .each)
+    run-rows : runWidth * u ≤ length runs → take (runWidth * u) (tidyRuns runs 0 u) ≡ allRuns us
+    run-rows h = numbers-take (tidyRuns runs 0 u) (runWidth * u) (omega (arith, runs-length runs 0 u)) ∙ runs-at count live runs undo runs 0 0 0 u (λ x k. refl) (omega arith) (parts .each)
 
     undo-rows : 2 * entriesFrom runs 0 u ≤ length undo → take (2 * entriesFrom runs 0 u) undo ≡ flat (undoList us)
     undo-rows h = numbers-take undo (2 * entriesFrom runs 0 u) h ∙ sym (flat-at undo 0 (entriesFrom runs 0 u)) ∙ ap flat (sym (members-undo live runs undo 0 0 0 u))
 
-    module _ (hl : length live ≡ 1792) (hr : length runs ≡ 256) (hu : length undo ≡ 368) where
-      pub canonical : (n : ℕ) (runs₁ live′ runs′ undo′ : List ℕ) → n ≡ entriesFrom runs 0 u → runs₁ ≡ tidyRuns runs 0 u → live′ ≡ padded (length live) (take (28 * (u + w)) live)
-          → runs′ ≡ padded (length runs₁) (take (16 * u) runs₁) → undo′ ≡ padded (length undo) (take (2 * n) undo) → Canonical us ws n live′ runs′ undo′
+    module _ (hl : length live ≡ liveLength) (hr : length runs ≡ runsLength) (hu : length undo ≡ undoLength) where
+      pub canonical : (n : ℕ) (runs₁ live′ runs′ undo′ : List ℕ) → n ≡ entriesFrom runs 0 u → runs₁ ≡ tidyRuns runs 0 u → live′ ≡ padded (length live) (take (liveWidth * (u + w)) live)
+          → runs′ ≡ padded (length runs₁) (take (runWidth * u) runs₁) → undo′ ≡ padded (length undo) (take (2 * n) undo) → Canonical us ws n live′ runs′ undo′
       canonical n runs₁ live′ runs′ undo′ en e₁ el er eu = record {
         entries = en ∙ entries-are;
         live = el ∙ (λ j. padded (hl j) (live-rows (omega (arith, few-live)) j));
-        runs = er ∙ ap (λ (x : List ℕ). padded (length x) (take (16 * u) x)) e₁ ∙ (λ j. padded ((runs-length runs 0 u ∙ hr) j) (run-rows (omega (arith, few-uncommitted)) j));
+        runs = er ∙ ap (λ (x : List ℕ). padded (length x) (take (runWidth * u) x)) e₁ ∙ (λ j. padded ((runs-length runs 0 u ∙ hr) j) (run-rows (omega (arith, few-uncommitted)) j));
         undo = eu ∙ ap (λ (x : ℕ). padded (length undo) (take (2 * x) undo)) en ∙ (λ j. padded (hu j) (undo-rows (omega (arith, few-entries)) j));
       }

@@ -12,9 +12,10 @@ use Rattle.model.specs.Refusals.{sound}
 use Rattle.record.specs.View.{viewOf}
 use Rattle.tidy.proofs.tidy.Kinds as tidy-kinds
 use Rattle.tidy.proofs.tidy.Reads as tidy
+use Rattle.record.specs.Widths.{liveLength, runsLength, undoLength}
 
 pub tidy-unique : (κs : Lfts 3) (a : Dens κs tidy-kinds.ps) (count largest : ℕ)
-    → length (now (a .1 .1 .0)) ≡ 1792 → length (now (a .1 .1 .1 .0)) ≡ 256 → length (now (a .1 .1 .1 .1 .0)) ≡ 368
+    → length (now (a .1 .1 .0)) ≡ liveLength → length (now (a .1 .1 .1 .0)) ≡ runsLength → length (now (a .1 .1 .1 .1 .0)) ≡ undoLength
     → sound (viewOf count largest (a .0) (a .1 .0) (now (a .1 .1 .0)) (now (a .1 .1 .1 .0)) (now (a .1 .1 .1 .1 .0))) ≡ true
     → (z z′ : resT tidy-kinds.r κs .Denot) (ws ws′ : Lasts (endedOf 3 tidy-kinds.ps tidy-kinds.r) κs a)
     → tidy.Learnt κs a z (atExit (endedOf 3 tidy-kinds.ps tidy-kinds.r) κs a ws) → tidy.Learnt κs a z′ (atExit (endedOf 3 tidy-kinds.ps tidy-kinds.r) κs a ws′)

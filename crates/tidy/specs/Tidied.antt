@@ -9,16 +9,17 @@ use Rattle.model.specs.Refusals.{sound}
 use Rattle.operations.specs.Laid.{padded, flat}
 use Rattle.record.specs.Words.{allRows, allRuns, liveRows}
 use Rattle.record.specs.View.{uncommittedOf, waitingOf, viewOf}
+use Rattle.record.specs.Widths.{liveWidth, liveLength, runsLength, undoLength}
 
 -- rows that hold the queues, every unused place zero, and how many undo entries there are
 pub record Canonical (us : List Uncommitted) (ws : List Waiting) (n : ℕ) (l r d : List ℕ) : Type 0 where
   pub entries : n ≡ length (undoList us)
-  pub live : l ≡ padded 1792 (allRows (liveRows us ws))
-  pub runs : r ≡ padded 256 (allRuns us)
-  pub undo : d ≡ padded 368 (flat (undoList us))
+  pub live : l ≡ padded liveLength (allRows (liveRows us ws))
+  pub runs : r ≡ padded runsLength (allRuns us)
+  pub undo : d ≡ padded undoLength (flat (undoList us))
 
 -- of a sound record: its rows with every unused place zero, and how many undo entries there are
 abbrev pub Tidied : ℕ → ℕ → ℕ → ℕ → List ℕ → List ℕ → List ℕ → ℕ → List ℕ → List ℕ → List ℕ → Type 0
 Tidied count largest u w live runs undo n live′ runs′ undo′ =
-    length live ≡ 1792 → length runs ≡ 256 → length undo ≡ 368 → sound (viewOf count largest u w live runs undo) ≡ true
-    → Canonical (uncommittedOf live 0 runs 0 undo 0 u) (waitingOf live (28 * u) w) n live′ runs′ undo′
+    length live ≡ liveLength → length runs ≡ runsLength → length undo ≡ undoLength → sound (viewOf count largest u w live runs undo) ≡ true
+    → Canonical (uncommittedOf live 0 runs 0 undo 0 u) (waitingOf live (liveWidth * u) w) n live′ runs′ undo′

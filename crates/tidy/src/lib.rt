@@ -1,4 +1,5 @@
 // Leaves the rows of a sound record, with anything in their unused places, canonical: every unused place zero.
+ghost use Rattle.record.specs.Widths.{runsLength};
 ghost use mathlib.Core.Path.{_≡_};
 ghost use Prim.Native.Nat.{ℕ, _≤_};
 ghost use Rattle.tidy.specs.Runs.{used, tidyRun, tidyRuns, entriesFrom};
@@ -19,12 +20,12 @@ pub(crate) fn used_at(runs: &[u32], at: u32) -> u32
 
 // Clears what a run does not use of its sixteen places.
 pub(crate) fn tidy_run(runs: &mut [u32], at: u32)
-    requires { ⌜ at ≤ 256 ⌝ }
+    requires { ⌜ at ≤ runsLength ⌝ }
     ensures { λ _. ⌜ now (runs .exit) ≡ tidyRun (now (runs .entry)) at ⌝ }
 {
-    let zeros = [0u32; 16];
+    let zeros = [0u32; record::RUN_WORDS];
     let k = used_at(runs, at);
-    record::lay(runs, at + k, &zeros, 16 - k);
+    record::lay(runs, at + k, &zeros, record::RUN_WIDTH - k);
 }
 
 // So for the first n runs.
@@ -34,7 +35,7 @@ pub(crate) fn tidy_runs(runs: &mut [u32], n: u32)
 {
     let mut i: u32 = 0;
     while i < n {
-        tidy_run(runs, 16 * i);
+        tidy_run(runs, record::RUN_WIDTH * i);
         i = i + 1;
     }
 }
@@ -47,7 +48,7 @@ pub(crate) fn entries_in(runs: &[u32], n: u32) -> usize
     let mut sum: usize = 0;
     let mut i: usize = 0;
     while i < n as usize {
-        let own = operations::number_at(runs, 16 * i + 3);
+        let own = operations::number_at(runs, record::RUN_WORDS * i + 3);
         sum = sum + own as usize;
         i = i + 1;
     }
@@ -76,9 +77,9 @@ pub fn tidy(
         return 0;
     }
     let entries = n as u32;
-    record::clear(live, 28 * (uncommitted + waiting));
+    record::clear(live, record::LIVE_WIDTH * (uncommitted + waiting));
     tidy_runs(runs, uncommitted);
-    record::clear(runs, 16 * uncommitted);
-    record::clear(undo, 2 * entries);
+    record::clear(runs, record::RUN_WIDTH * uncommitted);
+    record::clear(undo, record::ENTRY_WIDTH * entries);
     entries
 }

@@ -5,7 +5,7 @@ use mathlib.Core.Path.{_≡_, refl, sym, ap, _∙_}
 use mathlib.Core.List.{List, [], _∷_, _++_, append-assoc}
 use lib.ListN.{length, getD, take, drop, replicate, length-append, length-take, length-replicate}
 use lib.Seq.{getD-at, getD-append-add, take-append-add}
-use Rattle.model.specs.Limits.{mostOperations}
+use Rattle.model.specs.Limits.{mostOperations, answerWords}
 use Rattle.model.specs.Operations.{Outcome}
 use Rattle.model.specs.Transactions.{Answer, words, allWords, filled}
 use Rattle.trace.specs.Text.{decimalBy, decimal, fieldsFrom, fields, lineFrom, lineE, lineA, answerLine, lineC}
@@ -27,7 +27,7 @@ length-words a =
     let ns : List ℕ = take 8 (a .outcome .numbers ++ replicate 8 0) in
     omega (arith, length-append ns (replicate {A = ℕ} 4 0), length-take 8 (a .outcome .numbers ++ replicate 8 0), length-append (a .outcome .numbers) (replicate {A = ℕ} 8 0))
 
-length-all : (l : List Answer) → length (allWords l) ≡ 16 * length l
+length-all : (l : List Answer) → length (allWords l) ≡ answerWords * length l
 unfolding allWords
 length-all [] = omega arith
 length-all (a ∷ l) = length-append (words a) (allWords l) ∙ omega (arith, length-words a, length-all l)
@@ -56,13 +56,13 @@ module _ (a : Answer) (h : length (a .outcome .numbers) ≤ 8) where
       ∙ ap {B = List ℕ} (λ (x : List ℕ). a .number ∷ a .dependence ∷ a .outcome .place ∷ length ns ∷ x) (append-assoc ns (take k (replicate 8 0)) (replicate 4 0))
 
   -- wherever it stands
-  stands : (p r : List ℕ) (i : ℕ) → length p ≡ 16 * i → lineA (p ++ (told a ++ r)) i ≡ answerLine a
+  stands : (p r : List ℕ) (i : ℕ) → length p ≡ answerWords * i → lineA (p ++ (told a ++ r)) i ≡ answerLine a
   unfolding lineA lineFrom answerLine
   stands p r i e =
       let room : List ℕ = p ++ (told a ++ r) in
-      let third : getD room (16 * i + 3) 0 ≡ length (a .outcome .numbers) = ap (λ (x : ℕ). getD room (x + 3) 0) (sym e) ∙ getD-append-add p (told a ++ r) 3 0 in
-      let n : 4 + min (getD room (16 * i + 3) 0) mostOperations ≡ length (told a) = omega arith in
-      ap {B = List ℕ} (λ (x : List ℕ). 97 ∷ (x ++ (10 ∷ []))) (ap (fieldsFrom room (16 * i)) n ∙ fields-at p (told a) r (16 * i) e)
+      let third : getD room (answerWords * i + 3) 0 ≡ length (a .outcome .numbers) = ap (λ (x : ℕ). getD room (x + 3) 0) (sym e) ∙ getD-append-add p (told a ++ r) 3 0 in
+      let n : 4 + min (getD room (answerWords * i + 3) 0) mostOperations ≡ length (told a) = omega arith in
+      ap {B = List ℕ} (λ (x : List ℕ). 97 ∷ (x ++ (10 ∷ []))) (ap (fieldsFrom room (answerWords * i)) n ∙ fields-at p (told a) r (answerWords * i) e)
 
   -- "they fill the lent answer room from its start": the answer behind l
   pub answer-line : (l m : List Answer) (room : List ℕ) (i : ℕ) → length l ≡ i → lineA (filled (l ++ (a ∷ m)) room) i ≡ answerLine a
@@ -71,7 +71,7 @@ module _ (a : Answer) (h : length (a .outcome .numbers) ≤ 8) where
       let split : allWords (l ++ (a ∷ m)) ++ rest ≡ allWords l ++ (told a ++ (unused ++ (allWords m ++ rest))) =
       ap (λ (x : List ℕ). x ++ rest) (all-split l a m) ∙ append-assoc (allWords l) (words a ++ allWords m) rest
       ∙ ap (λ (x : List ℕ). allWords l ++ x) (append-assoc (words a) (allWords m) rest ∙ ap (λ (x : List ℕ). x ++ (allWords m ++ rest)) words-are ∙ append-assoc (told a) unused (allWords m ++ rest)) in
-      ap (λ (x : List ℕ). lineA x i) split ∙ stands (allWords l) (unused ++ (allWords m ++ rest)) i (length-all l ∙ ap (λ (x : ℕ). 16 * x) e)
+      ap (λ (x : List ℕ). lineA x i) split ∙ stands (allWords l) (unused ++ (allWords m ++ rest)) i (length-all l ∙ ap (λ (x : ℕ). answerWords * x) e)
 
 -- Document 01's own lines, computed: `e 1 0`, `a 1 0 0 1 17`, `c 0 19`; and TOP's ten digits
 

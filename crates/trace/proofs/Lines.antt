@@ -6,7 +6,7 @@ use mathlib.Core.Path.{_≡_, refl, sym, ap, _∙_}
 use mathlib.Core.List.{List, [], _∷_, _++_, append-assoc}
 use lib.ListN.{length, getD, set, drop, length-append, drop-of-length-le}
 use lib.Seq.{sets, set-comm, drop-cons}
-use Rattle.model.specs.Limits.{mostOperations}
+use Rattle.model.specs.Limits.{mostOperations, answerWords}
 use Rattle.trace.specs.Format.{wordAt, wordsFrom}
 use Rattle.trace.specs.Text.{decimal, fieldsFrom, lineFrom, lineE, lineA, lineC}
 use Rattle.trace.proofs.Digits.{digits, length-digits, digits-decimal, length-decimal}
@@ -142,7 +142,7 @@ length-c cell content = length-line 99 (cell ∷ content ∷ []) 0 2 0
 
 pub length-a : (room : List ℕ) (i : ℕ) → length (lineA room i) ≤ 134
 unfolding lineA
-length-a room i = omega (arith, length-line 97 room (16 * i) (4 + min (getD room (16 * i + 3) 0) mostOperations) 0)
+length-a room i = omega (arith, length-line 97 room (answerWords * i) (4 + min (getD room (answerWords * i + 3) 0) mostOperations) 0)
 
 -- one turn of writing a text
 pub text-turn : (b b′ text all : List ℕ) (at i w : ℕ) → i < length text → w ≡ getD text i 0 → b′ ≡ set b (at + i) w → sets b (at + i) (drop i text) ≡ all → sets b′ (at + (i + 1)) (drop (i + 1) text) ≡ all
@@ -158,13 +158,13 @@ pub text-end : (b text all : List ℕ) (at i : ℕ) → length text ≤ i → se
 text-end b text all at i h inv = sym (ap (sets b (at + i)) (drop-of-length-le text h)) ∙ inv
 
 -- the numbers of an answer: as many as it says, at most eight
-pub answer-few : (room : List ℕ) (i count : ℕ) → count ≡ getD room (16 * i + 3) 0 → count < 8 → lineFrom 97 room (16 * i) (4 + count) ≡ lineA room i
+pub answer-few : (room : List ℕ) (i count : ℕ) → count ≡ getD room (answerWords * i + 3) 0 → count < 8 → lineFrom 97 room (answerWords * i) (4 + count) ≡ lineA room i
 unfolding lineA
-answer-few room i count e h = let z : 4 + count ≡ 4 + min (getD room (16 * i + 3) 0) mostOperations = omega arith in ap (lineFrom 97 room (16 * i)) z
+answer-few room i count e h = let z : 4 + count ≡ 4 + min (getD room (answerWords * i + 3) 0) mostOperations = omega arith in ap (lineFrom 97 room (answerWords * i)) z
 
-pub answer-many : (room : List ℕ) (i count : ℕ) → count ≡ getD room (16 * i + 3) 0 → 8 ≤ count → lineFrom 97 room (16 * i) 12 ≡ lineA room i
+pub answer-many : (room : List ℕ) (i count : ℕ) → count ≡ getD room (answerWords * i + 3) 0 → 8 ≤ count → lineFrom 97 room (answerWords * i) 12 ≡ lineA room i
 unfolding lineA
-answer-many room i count e h = let z : 12 ≡ 4 + min (getD room (16 * i + 3) 0) mostOperations = omega arith in ap (lineFrom 97 room (16 * i)) z
+answer-many room i count e h = let z : 12 ≡ 4 + min (getD room (answerWords * i + 3) 0) mostOperations = omega arith in ap (lineFrom 97 room (answerWords * i)) z
 
 -- a line that was written is another name's line
 pub named : (b b′ xs ys : List ℕ) (at p : ℕ) → xs ≡ ys → p ≡ at + length xs → b′ ≡ sets b at xs → (p ≡ at + length ys) × (b′ ≡ sets b at ys)

@@ -52,7 +52,7 @@ module _ (n a b e f : ℕ) where
             all-good h6 = rw (le-leb 1 a h1, le-leb a mostCells h2, eq-eqb b 4 h3, le-leb e 256 h4, eq-eqb f (4 + a) h5, eq-eqb n (4 * (4 + a + 29 * e)) h6)
 
 -- what is known of a good one
-pub record Known (l : List ℕ) (a e f : ℕ) : Type 0 where
+pub record TraceKnown (l : List ℕ) (a e f : ℕ) : Type 0 where
   pub cells : a ≡ wordAt l 0
   pub events : e ≡ wordAt l 2
   pub some : 1 ≤ a
@@ -68,11 +68,11 @@ both false b h = absurd (false-true h)
     false-true : false ≡ true → ⊥
     false-true e = let z : _≡_ {A = ℕ} 0 1 = cc in omega arith
 
-pub known : (l : List ℕ) (a e f : ℕ) → shapeOf l ≡ Trace a e f → Known l a e f
+pub trace-known : (l : List ℕ) (a e f : ℕ) → shapeOf l ≡ Trace a e f → TraceKnown l a e f
 unfolding shapeOf good
-known l a e f h = go (good l) refl h
+trace-known l a e f h = go (good l) refl h
   where
-    go : (b : Bool) → good l ≡ b → pick b (Trace (wordAt l 0) (wordAt l 2) (wordAt l 3)) Bad ≡ Trace a e f → Known l a e f
+    go : (b : Bool) → good l ≡ b → pick b (Trace (wordAt l 0) (wordAt l 2) (wordAt l 3)) Bad ≡ Trace a e f → TraceKnown l a e f
     go false g h = absurd (let z : _≡_ {A = ℕ} 0 1 = cc in omega arith)
     go true g h =
         let a0 : ℕ = wordAt l 0 in

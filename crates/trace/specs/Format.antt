@@ -35,8 +35,8 @@ unfoldable pub shapeOf : List ℕ → Shape
 shapeOf l = pick (good l) (Trace (wordAt l 0) (wordAt l 2) (wordAt l 3)) Bad
 
 -- "code, cell, amount": the operation whose words start at word b
-abbrev pub opAt : List ℕ → ℕ → Op
-opAt l b = record { code = wordAt l b; cell = wordAt l (b + 1); amount = wordAt l (b + 2) }
+abbrev pub opFrom : List ℕ → ℕ → Op
+opFrom l b = record { code = wordAt l b; cell = wordAt l (b + 1); amount = wordAt l (b + 2) }
 
 -- "29 words an event: kind (1 fragment, 2 commit, 3 abort), number, flags (1 multi + 2 last), coordinator, operation count, eight times
 -- code, cell, amount": the event whose words start at word b
@@ -48,6 +48,6 @@ eventAt l b = record {
     flags = wordAt l (b + 2);
     coordinator = wordAt l (b + 3);
     count = wordAt l (b + 4);
-    row = opAt l (b + 5) ∷ opAt l (b + 8) ∷ opAt l (b + 11) ∷ opAt l (b + 14) ∷ opAt l (b + 17) ∷ opAt l (b + 20) ∷ opAt l (b + 23) ∷ opAt l (b + 26) ∷ [];
+    row = opFrom l (b + 5) ∷ opFrom l (b + 8) ∷ opFrom l (b + 11) ∷ opFrom l (b + 14) ∷ opFrom l (b + 17) ∷ opFrom l (b + 20) ∷ opFrom l (b + 23) ∷ opFrom l (b + 26) ∷ [];
   };
 }

@@ -4,7 +4,7 @@ use mathlib.Core.Bool.{Bool}
 use mathlib.Core.List.{List, [], _∷_, _++_}
 use lib.Dec.{ltb}
 use lib.ListN.{length, getD}
-use Rattle.model.specs.Limits.{mostOperations}
+use Rattle.model.specs.Limits.{mostOperations, answerWords}
 use Rattle.model.specs.Operations.{Outcome, pick}
 use Rattle.model.specs.Transactions.{Answer}
 
@@ -46,7 +46,7 @@ lineE position number = lineFrom 101 (position ∷ number ∷ []) 0 2
 -- "then `a` transaction, dependence, place, count and that many numbers for each answer": the answer whose 16 words start at 16 * i, of
 -- which the first four and at most eight more are printed
 unfoldable pub lineA : List ℕ → ℕ → List ℕ
-lineA room i = lineFrom 97 room (16 * i) (4 + min (getD room (16 * i + 3) 0) mostOperations)
+lineA room i = lineFrom 97 room (answerWords * i) (4 + min (getD room (answerWords * i + 3) 0) mostOperations)
 
 -- the same of an answer that is known
 unfoldable pub answerLine : Answer → List ℕ

@@ -4,7 +4,7 @@ ghost use mathlib.Core.Path.{_≡_};
 ghost use Prim.Native.Nat.{_+_, _*_, _<_, _≤_};
 ghost use lib.ListN.{length, getD, set};
 ghost use lib.Seq.{sets};
-ghost use Rattle.trace.specs.Format.{wordAt, wordsFrom, opAt, eventAt, shapeOf};
+ghost use Rattle.trace.specs.Format.{wordAt, wordsFrom, opFrom, eventAt, shapeOf};
 ghost use Rattle.trace.specs.Text.{decimal, fieldsFrom, lineFrom, lineE, lineA, lineC, badTrace, badScheme};
 use model::Event;
 use model::Fragment;
@@ -79,7 +79,7 @@ pub fn shape_of(bytes: &[u8]) -> Shape
 // The operation whose three words start at b.
 pub(crate) fn op_at(bytes: &[u8], b: usize) -> Op
     requires { ⌜ b < 8589934590 ⌝ }
-    ensures { λ r. ⌜ r ≡ opAt (now (bytes .entry)) b ⌝ }
+    ensures { λ r. ⌜ r ≡ opFrom (now (bytes .entry)) b ⌝ }
 {
     let c = word_at(bytes, b);
     let e = word_at(bytes, b + 1);
@@ -232,7 +232,7 @@ pub fn put_a(buffer: &mut [u8], at: u32, room: &[u32], i: u32) -> usize
     ensures { λ r. ⌜ r ≡ at + length (lineA (now (room .entry)) i) ⌝ }
     ensures { λ r. ⌜ now (buffer .exit) ≡ sets (now (buffer .entry)) at (lineA (now (room .entry)) i) ⌝ }
 {
-    let b = 16 * (i as usize);
+    let b = model::ANSWER_WORDS * (i as usize);
     let count = operations::number_at(room, b + 3);
     if count < 8 {
         return put_line(buffer, at, b'a', room, b, 4 + count as usize);

@@ -5,8 +5,8 @@ use Rattle.engine.proofs.accept_abort.Statement.{statement}
 use Rattle.engine.proofs.accept_abort.Tie as tie
 use Rattle.engine.proofs.accept_abort.Reads as reads
 use Rattle.engine.proofs.accept_abort.Lts as lts
-use Rattle.engine.proofs.queues.abort.Reads as abort-reads
-use Rattle.engine.proofs.queues.drain.Reads as drain-reads
+use Rattle.engine.proofs.abort.abort.Reads as abort-reads
+use Rattle.engine.proofs.drain.drain.Reads as drain-reads
 
 abort-requires : tie.Need-abort-requires
 abort-requires c κs = let a = c .before .before .before .before .before .before .before .before .args in

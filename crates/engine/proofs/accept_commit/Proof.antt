@@ -6,8 +6,8 @@ use Rattle.engine.proofs.accept_commit.Statement.{statement}
 use Rattle.engine.proofs.accept_commit.Tie as tie
 use Rattle.engine.proofs.accept_commit.Reads as reads
 use Rattle.engine.proofs.accept_commit.Lts as lts
-use Rattle.engine.proofs.queues.commit.Reads as commit-reads
-use Rattle.engine.proofs.queues.drain.Reads as drain-reads
+use Rattle.engine.proofs.settle.commit.Reads as commit-reads
+use Rattle.engine.proofs.drain.drain.Reads as drain-reads
 
 commit-requires : tie.Need-commit-requires
 commit-requires c κs = let a = c .before .before .before .before .before .before .before .before .args in

@@ -7,8 +7,8 @@ use Rattle.engine.proofs.accept_fragment.Tie as tie
 use Rattle.engine.proofs.accept_fragment.Reads as reads
 use Rattle.engine.proofs.accept_fragment.Lts as lts
 use Rattle.engine.proofs.join_waiting.Reads as join-waiting-reads
-use Rattle.engine.proofs.queues.continue_front.Reads as continue-front-reads
-use Rattle.engine.proofs.queues.drain.Reads as drain-reads
+use Rattle.engine.proofs.front.continue_front.Reads as continue-front-reads
+use Rattle.engine.proofs.drain.drain.Reads as drain-reads
 use Rattle.refusals.proofs.is_front.Reads as is-front-reads
 
 is-front-requires : tie.Need-is-front-requires

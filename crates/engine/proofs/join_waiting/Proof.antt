@@ -3,15 +3,16 @@ use mathlib.Core.Path.{_≡_, refl, ap, _∙_}
 use mathlib.Core.List.{List}
 use lib.ListN.{length}
 use lib.Seq.{sets}
-use Rattle.engine.proofs.Reading.{laid-whole}
+use Rattle.rows.proofs.Reading.{laid-whole}
 use borrow.Author.Needs.{needs}
 use Rattle.engine.proofs.join_waiting.Statement.{statement}
 use Rattle.engine.proofs.join_waiting.Tie as tie
 use Rattle.engine.proofs.join_waiting.Reads as reads
 use Rattle.engine.proofs.join_waiting.Lts as lts
-use Rattle.engine.proofs.queues.Counts.waits.Reads as waits-reads
+use Rattle.engine.proofs.counts.Counts.waits.Reads as waits-reads
 use Rattle.record.proofs.lay.Reads as lay-reads
 use Rattle.record.proofs.row_words.Reads as row-words-reads
+use Rattle.record.specs.Widths.{liveWidth}
 
 row-words-requires : tie.Need-row-words-requires
 row-words-requires c κs = search needs
@@ -40,8 +41,8 @@ same-length c = search needs
 returns : tie.Need-returns
 returns c = let a = c .before .before .before .before .before .before .before .before .before .before .args in
     let w = c .before .before .before .before .before .before .before .before .row-words .result in
-    let e : length w ≡ 28 = search (c .before .before .before .before .before .before .before .before .row-words, needs) in
-    (c .waits .ensures, c .before .before .before .lay .ensures ∙ ap (sets (a .live .now) (28 * (a .c .first + a .c .uncommitted + a .c .waiting))) (laid-whole w 28 e ∙ c .before .before .before .before .before .before .before .before .row-words .ensures))
+    let e : length w ≡ liveWidth = search (c .before .before .before .before .before .before .before .before .row-words, needs) in
+    (c .waits .ensures, c .before .before .before .lay .ensures ∙ ap (sets (a .live .now) (liveWidth * (a .c .first + a .c .uncommitted + a .c .waiting))) (laid-whole w liveWidth e ∙ c .before .before .before .before .before .before .before .before .row-words .ensures))
 
 pub join-waiting-spec : {M : Type 1} → statement M
 join-waiting-spec =

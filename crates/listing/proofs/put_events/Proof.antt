@@ -2,7 +2,7 @@ use Prim.Native.Nat.{_+_, _-_, _*_, _≤_}
 use native.Mathlib.Omega.{arith}
 use mathlib.Core.Path.{_≡_, refl}
 use lib.ListN.{length}
-use Rattle.listing.specs.Played.{kept, played}
+use Rattle.listing.specs.Played.{playing, played}
 use Rattle.listing.specs.Printed.{eventsLines, together, mostOfEvent}
 use Rattle.listing.proofs.Texts.{Left}
 use Rattle.listing.proofs.Events.{rest, play-start, play-turn, play-end, events-start, events-turn, events-end}
@@ -19,8 +19,8 @@ use Rattle.trace.proofs.event_at.Reads as event-at-reads
 abbrev Inv-loop : tie.InvT-loop
 Inv-loop scheme bytes first events cells₀ room₀ from buffer₀ record₀ p₀ i₀ cells room buffer «record» p i =
     (i ≤ events) × (p ≤ mostOfEvent * i) × (length cells ≡ length cells₀) × (length room ≡ length room₀) × (length buffer ≡ length buffer₀)
-    × (played scheme bytes (first + 29 * i) (events - i) (kept «record» cells room) ≡ played scheme bytes first events (kept record₀ cells₀ room₀))
-    × Left from buffer buffer₀ p 0 (rest scheme bytes first events i (kept «record» cells room)) (together (eventsLines scheme bytes 1 first events (kept record₀ cells₀ room₀)))
+    × (played scheme bytes (first + 29 * i) (events - i) (playing «record» cells room) ≡ played scheme bytes first events (playing record₀ cells₀ room₀))
+    × Left from buffer buffer₀ p 0 (rest scheme bytes first events i (playing «record» cells room)) (together (eventsLines scheme bytes 1 first events (playing record₀ cells₀ room₀)))
 
 abbrev μ-loop : tie.MeasureT-loop
 μ-loop scheme bytes first events cells₀ room₀ from buffer₀ record₀ p₀ i₀ cells room buffer «record» p i = events - i
@@ -28,7 +28,7 @@ abbrev μ-loop : tie.MeasureT-loop
 loop-holds : tie.Need-loop-holds Inv-loop μ-loop
 loop-holds c =
     let a = c .before .before .before .before .args in
-    let k = kept (a .start) (a .cells .now) (a .room .now) in
+    let k = playing (a .start) (a .cells .now) (a .room .now) in
     (omega arith, omega arith, refl, refl, refl, play-start (a .scheme) (a .bytes .now) (a .first) (a .events) 0 k refl, events-start (a .scheme) (a .bytes .now) (a .first) (a .events) 0 (a .from) k (a .buffer .now) refl)
 
 mul-event-at : tie.Need-mul-event-at Inv-loop μ-loop
@@ -90,7 +90,7 @@ returns c =
     let a = c .before .before .before .before .before .before .args in
     let l = c .before .loop in (
       play-end (a .scheme) (a .bytes .now) (a .first) (a .events) (l .i) (c .loop-test .left) (l .«record») (l .cells) (l .room) _ (l .inv .5),
-      events-end (a .scheme) (a .bytes .now) (a .first) (a .events) (l .i) (c .loop-test .left) (a .from) (kept (l .«record») (l .cells) (l .room)) (l .buffer) (a .buffer .now) (l .p) _ (l .inv .6),
+      events-end (a .scheme) (a .bytes .now) (a .first) (a .events) (l .i) (c .loop-test .left) (a .from) (playing (l .«record») (l .cells) (l .room)) (l .buffer) (a .buffer .now) (l .p) _ (l .inv .6),
     )
 
 pub put-events-spec : {M : Type 1} → statement M

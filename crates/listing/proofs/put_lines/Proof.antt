@@ -1,6 +1,6 @@
 use native.Mathlib.Omega.{arith}
 use mathlib.Core.Path.{sym, _∙_}
-use Rattle.trace.proofs.Shapes.{known}
+use Rattle.trace.proofs.Shapes.{trace-known}
 use Rattle.listing.proofs.Events.{bad-put, good-put}
 use borrow.Author.Needs.{needs}
 use Rattle.listing.proofs.put_lines.Statement.{statement}
@@ -30,7 +30,7 @@ put-run-requires : tie.Need-put-run-requires
 put-run-requires c κs =
     let l = c .before .before .before .before .before .before .before .args .bytes .now in
     let g = c .before .before .cells .given in
-    let k = known l (g .0 .0) (g .0 .1 .0) (g .0 .1 .1 .0) (sym (c .before .before .before .before .shape-of .ensures) ∙ g .1) in
+    let k = trace-known l (g .0 .0) (g .0 .1 .0) (g .0 .1 .1 .0) (sym (c .before .before .before .before .shape-of .ensures) ∙ g .1) in
     (k .most, omega (arith, k .first, k .most), k .few)
 
 cast-result-2 : tie.Need-cast-result-2

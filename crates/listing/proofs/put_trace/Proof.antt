@@ -1,5 +1,5 @@
 use native.Mathlib.Omega.{arith}
-use Rattle.listing.specs.Played.{kept}
+use Rattle.listing.specs.Played.{playing}
 use Rattle.listing.proofs.Events.{trace-put}
 use Rattle.listing.proofs.Sizes.{length-events}
 use borrow.Author.Needs.{needs}
@@ -26,7 +26,7 @@ put-cells-requires c κs =
     let a = c .before .before .before .before .before .before .before .before .before .before .before .before .before .before .before .before .before .before .before .before .before .before .args in
     let e = c .before .before .before .before .before .before .before .before .put-events in
     let s = c .before .before .before .before .before .before .before .before .before .before .before .before .before .start in
-    omega (arith, e .ensures .1 .place, length-events (a .scheme) (a .bytes .now) 1 (a .first) (a .events) (kept (s .result .next) (c .before .before .before .before .before .before .before .before .before .before .before .before .before .before .before .before .copy-cells .last .1 .1 .0) (a .room .now)), c .before .before .before .before .before .before .before .before .before .before .before .before .before .before .before .before .before .before .before .before .before .before .pre .0, c .before .before .before .before .before .before .before .before .before .before .before .before .before .before .before .before .before .before .before .before .before .before .pre .2)
+    omega (arith, e .ensures .1 .place, length-events (a .scheme) (a .bytes .now) 1 (a .first) (a .events) (playing (s .result .next) (c .before .before .before .before .before .before .before .before .before .before .before .before .before .before .before .before .copy-cells .last .1 .1 .0) (a .room .now)), c .before .before .before .before .before .before .before .before .before .before .before .before .before .before .before .before .before .before .before .before .before .before .pre .0, c .before .before .before .before .before .before .before .before .before .before .before .before .before .before .before .before .before .before .before .before .before .before .pre .2)
 
 same-length : tie.Need-same-length
 same-length c = search needs

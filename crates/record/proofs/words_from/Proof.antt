@@ -9,6 +9,7 @@ use Rattle.record.proofs.words_from.Lts as lts
 use Rattle.record.proofs.lay_in.Reads as lay-in-reads
 use Rattle.record.proofs.least.Reads as least-reads
 use Rattle.record.proofs.less.Reads as less-reads
+use Rattle.record.specs.Widths.{liveWidth}
 
 less-requires : tie.Need-less-requires
 less-requires c κs = search needs
@@ -25,7 +26,7 @@ lay-in-requires c κs = search needs
 returns : tie.Need-returns
 returns c = let a = c .before .before .before .before .before .before .args in
     let n = c .before .before .before .least in
-    c .before .lay-in .ensures ∙ copied-out (a .row .now) (a .at) 28 (n .result) (n .ensures ∙ ap (min 28) (c .before .before .before .before .less .ensures))
+    c .before .lay-in .ensures ∙ copied-out (a .row .now) (a .at) liveWidth (n .result) (n .ensures ∙ ap (min liveWidth) (c .before .before .before .before .less .ensures))
 
 pub words-from-spec : {M : Type 1} → statement M
 words-from-spec =

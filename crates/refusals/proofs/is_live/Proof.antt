@@ -10,9 +10,10 @@ use Rattle.refusals.proofs.is_live.Tie as tie
 use Rattle.refusals.proofs.is_live.Reads as reads
 use Rattle.refusals.proofs.is_live.Lts as lts
 use Rattle.operations.proofs.number_at.Reads as number-at-reads
+use Rattle.record.specs.Widths.{liveWidth}
 
 abbrev Inv-loop : tie.InvT-loop
-Inv-loop live uncommitted waiting number n i₀ i = (i ≤ n) × (isIn number (rowNumbers live (28 * i) (n - i)) ≡ isIn number (rowNumbers live 0 (uncommitted + waiting)))
+Inv-loop live uncommitted waiting number n i₀ i = (i ≤ n) × (isIn number (rowNumbers live (liveWidth * i) (n - i)) ≡ isIn number (rowNumbers live 0 (uncommitted + waiting)))
 
 abbrev μ-loop : tie.MeasureT-loop
 μ-loop live uncommitted waiting number n i₀ i = n - i

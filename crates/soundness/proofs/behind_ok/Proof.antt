@@ -11,9 +11,10 @@ use Rattle.soundness.proofs.behind_ok.Reads as reads
 use Rattle.soundness.proofs.behind_ok.Lts as lts
 use Rattle.operations.proofs.number_at.Reads as number-at-reads
 use Rattle.soundness.proofs.next_ok.Reads as next-ok-reads
+use Rattle.record.specs.Widths.{liveWidth, runWidth}
 
 abbrev Inv-loop : tie.InvT-loop
-Inv-loop live runs n b₀ c₀ left₀ b c left = (b + 28 * left ≡ 28 * n) × (c + 16 * left ≡ 16 * n) × (n ≤ 15) × (behindFrom live b runs c left ≡ behindFrom live 0 runs 0 n)
+Inv-loop live runs n b₀ c₀ left₀ b c left = (b + liveWidth * left ≡ liveWidth * n) × (c + runWidth * left ≡ runWidth * n) × (n ≤ 15) × (behindFrom live b runs c left ≡ behindFrom live 0 runs 0 n)
 
 abbrev μ-loop : tie.MeasureT-loop
 μ-loop live runs n b₀ c₀ left₀ b c left = left

@@ -11,9 +11,10 @@ use Rattle.soundness.proofs.live_ok.Reads as reads
 use Rattle.soundness.proofs.live_ok.Lts as lts
 use Rattle.operations.proofs.number_at.Reads as number-at-reads
 use Rattle.soundness.proofs.row_ok.Reads as row-ok-reads
+use Rattle.record.specs.Widths.{liveWidth}
 
 abbrev Inv-loop : tie.InvT-loop
-Inv-loop live n largest cells b₀ left₀ low₀ b left low = (b + 28 * left ≡ 28 * n) × (n ≤ 64) × (liveFrom largest cells live b left low ≡ liveFrom largest cells live 0 n 0)
+Inv-loop live n largest cells b₀ left₀ low₀ b left low = (b + liveWidth * left ≡ liveWidth * n) × (n ≤ 64) × (liveFrom largest cells live b left low ≡ liveFrom largest cells live 0 n 0)
 
 abbrev μ-loop : tie.MeasureT-loop
 μ-loop live n largest cells b₀ left₀ low₀ b left low = left

@@ -9,9 +9,10 @@ use Rattle.soundness.proofs.total.Tie as tie
 use Rattle.soundness.proofs.total.Reads as reads
 use Rattle.soundness.proofs.total.Lts as lts
 use Rattle.operations.proofs.number_at.Reads as number-at-reads
+use Rattle.record.specs.Widths.{runWidth}
 
 abbrev Inv-loop : tie.InvT-loop
-Inv-loop runs n c₀ left₀ sum₀ c left sum = (c + 16 * left ≡ 16 * n) × (n ≤ 16) × (sum + 4294967295 * left ≤ 4294967295 * n) × (sum + totalFrom runs c left ≡ totalFrom runs 0 n)
+Inv-loop runs n c₀ left₀ sum₀ c left sum = (c + runWidth * left ≡ runWidth * n) × (n ≤ 16) × (sum + 4294967295 * left ≤ 4294967295 * n) × (sum + totalFrom runs c left ≡ totalFrom runs 0 n)
 
 abbrev μ-loop : tie.MeasureT-loop
 μ-loop runs n c₀ left₀ sum₀ c left sum = left

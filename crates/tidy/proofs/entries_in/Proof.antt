@@ -9,9 +9,10 @@ use Rattle.tidy.proofs.entries_in.Tie as tie
 use Rattle.tidy.proofs.entries_in.Reads as reads
 use Rattle.tidy.proofs.entries_in.Lts as lts
 use Rattle.operations.proofs.number_at.Reads as number-at-reads
+use Rattle.record.specs.Widths.{runWidth}
 
 abbrev Inv-loop : tie.InvT-loop
-Inv-loop runs n sum₀ i₀ sum i = (i ≤ n) × (sum ≤ 4294967295 * i) × (sum + entriesFrom runs (16 * i) (n - i) ≡ entriesFrom runs 0 n)
+Inv-loop runs n sum₀ i₀ sum i = (i ≤ n) × (sum ≤ 4294967295 * i) × (sum + entriesFrom runs (runWidth * i) (n - i) ≡ entriesFrom runs 0 n)
 
 abbrev μ-loop : tie.MeasureT-loop
 μ-loop runs n sum₀ i₀ sum i = n - i

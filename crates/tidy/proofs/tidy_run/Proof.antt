@@ -13,6 +13,7 @@ use Rattle.tidy.proofs.tidy_run.Reads as reads
 use Rattle.tidy.proofs.tidy_run.Lts as lts
 use Rattle.record.proofs.lay.Reads as lay-reads
 use Rattle.tidy.proofs.used_at.Reads as used-at-reads
+use Rattle.record.specs.Widths.{runWidth}
 
 used-at-requires : tie.Need-used-at-requires
 used-at-requires c κs = search needs
@@ -34,7 +35,7 @@ same-length c = search needs
 
 returns : tie.Need-returns
 unfolding tidyRun
-returns c = c .before .before .lay .ensures ∙ ap (λ (k : ℕ). sets (c .before .before .before .before .before .before .before .before .args .runs .now) (c .before .before .before .before .before .before .before .before .args .at + k) (numbersFrom (replicate 16 0) 0 (16 - k))) (c .before .before .before .before .before .used-at .ensures)
+returns c = c .before .before .lay .ensures ∙ ap (λ (k : ℕ). sets (c .before .before .before .before .before .before .before .before .args .runs .now) (c .before .before .before .before .before .before .before .before .args .at + k) (numbersFrom (replicate runWidth 0) 0 (runWidth - k))) (c .before .before .before .before .before .used-at .ensures)
 
 pub tidy-run-spec : {M : Type 1} → statement M
 tidy-run-spec =

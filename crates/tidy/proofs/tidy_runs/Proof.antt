@@ -10,9 +10,10 @@ use Rattle.tidy.proofs.tidy_runs.Tie as tie
 use Rattle.tidy.proofs.tidy_runs.Reads as reads
 use Rattle.tidy.proofs.tidy_runs.Lts as lts
 use Rattle.tidy.proofs.tidy_run.Reads as tidy-run-reads
+use Rattle.record.specs.Widths.{runWidth}
 
 abbrev Inv-loop : tie.InvT-loop
-Inv-loop runs₀ n i₀ runs i = (i ≤ n) × (length runs ≡ length runs₀) × (tidyRuns runs (16 * i) (n - i) ≡ tidyRuns runs₀ 0 n)
+Inv-loop runs₀ n i₀ runs i = (i ≤ n) × (length runs ≡ length runs₀) × (tidyRuns runs (runWidth * i) (n - i) ≡ tidyRuns runs₀ 0 n)
 
 abbrev μ-loop : tie.MeasureT-loop
 μ-loop runs₀ n i₀ runs i = n - i

@@ -1,0 +1,4 @@
+pub mod Fine
+pub mod Carrying
+pub mod Agreeing
+pub mod Starting

@@ -1,0 +1,63 @@
+use Prim.Native.Nat.{ℕ, _+_, _*_, _-_, _≤_, _<_}
+use native.Mathlib.Omega.{arith}
+use mathlib.Core.Path.{_≡_, sym, ap, _∙_}
+use Rattle.rows.specs.Rows.{nearRows}
+use Rattle.rows.proofs.Reading.{near-on, near-end, rows-start}
+use borrow.Author.Needs.{needs}
+use Rattle.engine.proofs.drain.nearest_multi.Statement.{statement}
+use Rattle.engine.proofs.drain.nearest_multi.Tie as tie
+use Rattle.engine.proofs.drain.nearest_multi.Reads as reads
+use Rattle.engine.proofs.drain.nearest_multi.Lts as lts
+use Rattle.rows.proofs.nearer.Reads as nearer-reads
+use Rattle.record.specs.Widths.{liveWidth}
+
+abbrev Inv-loop : tie.InvT-loop
+Inv-loop live b n d₀ i₀ d i = (i ≤ n) × (nearRows d live (b + liveWidth * i) (n - i) ≡ nearRows 0 live b n)
+
+abbrev μ-loop : tie.MeasureT-loop
+μ-loop live b n d₀ i₀ d i = n - i
+
+loop-holds : tie.Need-loop-holds Inv-loop μ-loop
+loop-holds c = let a = c .before .args in
+    let s = rows-start (a .b) (a .n) in
+    (search needs, λ j. nearRows 0 (a .live .now) (s .0 j) (s .1 j))
+
+mul-nearer : tie.Need-mul-nearer Inv-loop μ-loop
+mul-nearer c = search needs
+
+add-nearer : tie.Need-add-nearer Inv-loop μ-loop
+add-nearer c = search needs
+
+nearer-requires : tie.Need-nearer-requires Inv-loop μ-loop
+nearer-requires c κs = search needs
+
+add-i : tie.Need-add-i Inv-loop μ-loop
+add-i c = search needs
+
+loop-less : tie.Need-loop-less Inv-loop μ-loop
+loop-less c = search needs
+
+loop-again : tie.Need-loop-again Inv-loop μ-loop
+loop-again c = let a = c .before .before .before .before .args in
+    let l = c .before .before .loop in
+    (omega arith, near-on (a .live .now) (a .b) (a .n) (l .i) (l .d) _ (l .inv .1) (c .before .loop-test .taken) _ (c .nearer .ensures))
+
+returns : tie.Need-returns Inv-loop μ-loop
+returns c = let a = c .before .before .before .args in
+    let l = c .before .loop in
+    near-end (a .live .now) (a .b) (a .n) (l .i) (l .d) _ (l .inv .1) (omega arith)
+
+pub nearest-multi-spec : {M : Type 1} → statement M
+nearest-multi-spec =
+    tie.close
+    (tie.spec
+    Inv-loop
+    μ-loop
+    loop-holds
+    mul-nearer
+    add-nearer
+    nearer-requires
+    add-i
+    loop-less
+    loop-again
+    returns)

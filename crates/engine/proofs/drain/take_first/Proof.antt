@@ -1,0 +1,139 @@
+use native.Mathlib.Omega.{arith}
+use Prim.Native.Nat.{ℕ, _≤_}
+use mathlib.Core.Path.{_≡_, refl, sym, ap, _∙_}
+use Rattle.engine.specs.Work.{Small}
+use Rattle.engine.proofs.Placing.{Facts, take-first-left}
+use Rattle.engine.proofs.Draining.{entries-few, small-taking}
+use borrow.Author.Needs.{needs}
+use Rattle.engine.proofs.drain.take_first.Statement.{statement}
+use Rattle.engine.proofs.drain.take_first.Tie as tie
+use Rattle.engine.proofs.drain.take_first.Reads as reads
+use Rattle.engine.proofs.drain.take_first.Lts as lts
+use Rattle.operations.proofs.is_last.Reads as is-last-reads
+use Rattle.operations.proofs.is_multi.Reads as is-multi-reads
+use Rattle.operations.proofs.number_at.Reads as number-at-reads
+use Rattle.operations.proofs.run_fragment.Reads as run-fragment-reads
+use Rattle.engine.proofs.drain.answer_if.Reads as answer-if-reads
+use Rattle.rows.proofs.is_answered.Reads as is-answered-reads
+use Rattle.rows.proofs.is_joining.Reads as is-joining-reads
+use Rattle.engine.proofs.drain.join_if.Reads as join-if-reads
+use Rattle.engine.proofs.drain.nearest_multi.Reads as nearest-multi-reads
+use Rattle.engine.proofs.drain.one_coordinator.Reads as one-coordinator-reads
+use Rattle.record.proofs.fragment_at.Reads as fragment-at-reads
+
+add-at : tie.Need-add-at
+add-at c = search needs
+
+mul-at : tie.Need-mul-at
+mul-at c = search needs
+
+mul-from : tie.Need-mul-from
+mul-from c = search needs
+
+cast-number-at : tie.Need-cast-number-at
+cast-number-at c = search needs
+
+number-at-requires : tie.Need-number-at-requires
+number-at-requires c κs = search needs
+
+fragment-at-requires : tie.Need-fragment-at-requires
+fragment-at-requires c κs = search needs
+
+run-fragment-requires : tie.Need-run-fragment-requires
+run-fragment-requires c κs = search needs
+
+is-multi-requires : tie.Need-is-multi-requires
+is-multi-requires c κs = search needs
+
+is-last-requires : tie.Need-is-last-requires
+is-last-requires c κs = search needs
+
+one-coordinator-requires : tie.Need-one-coordinator-requires
+one-coordinator-requires c κs = search needs
+
+nearest-multi-requires : tie.Need-nearest-multi-requires
+nearest-multi-requires c κs = omega (arith, c .before .before .before .before .before .before .before .before .before .before .before .before .before .before .before .before .pre .0 .live, c .before .before .before .before .before .before .before .before .before .before .before .before .before .before .before .before .pre .0 .depth)
+
+is-answered-requires : tie.Need-is-answered-requires
+is-answered-requires c κs = search needs
+
+is-joining-requires : tie.Need-is-joining-requires
+is-joining-requires c κs = search needs
+
+answer-if-requires : tie.Need-answer-if-requires
+answer-if-requires c κs = omega (arith, c .before .before .before .before .before .before .before .before .before .before .before .before .before .before .before .before .before .before .before .before .pre .0 .answers, c .before .before .before .before .before .before .before .before .before .before .before .before .before .before .before .before .before .before .before .before .pre .1)
+
+join-if-requires : tie.Need-join-if-requires
+join-if-requires c κs = let p = c .before .before .before .before .before .before .before .before .before .before .before .before .before .before .before .before .before .before .before .before .before .before .before .before .before .pre in
+    let few : c .before .before .before .before .before .before .before .before .before .before .before .before .before .before .run-fragment .result .entries ≤ 8 = entries-few (c .before .before .before .before .before .before .before .before .before .before .before .before .before .before .before .before .before .before .before .before .before .before .before .before .before .args .live .now) _ (c .before .before .before .before .before .before .before .before .before .before .before .before .before .before .before .before .fragment-at .result) (c .before .before .before .before .before .before .before .before .before .before .before .before .before .before .before .before .before .before .before .before .before .before .before .before .before .args .cells .now) (c .before .before .before .before .before .before .before .before .before .before .before .before .before .before .run-fragment .result) (c .before .before .before .before .before .before .before .before .before .before .before .before .before .before .before .before .fragment-at .ensures) (c .before .before .before .before .before .before .before .before .before .before .before .before .before .before .run-fragment .ensures .0) in
+    omega (arith, p .0 .live, p .0 .entries, p .1, few)
+
+same-length : tie.Need-same-length
+same-length c = search needs
+
+same-length-2 : tie.Need-same-length-2
+same-length-2 c = search needs
+
+same-length-3 : tie.Need-same-length-3
+same-length-3 c = search needs
+
+same-length-4 : tie.Need-same-length-4
+same-length-4 c = search needs
+
+returns : tie.Need-returns
+returns c = let p = c .before .before .before .before .before .before .before .before .before .before .before .before .before .before .before .before .before .before .before .before .before .before .before .before .before .before .before .before .before .before .pre in
+    let a = c .before .before .before .before .before .before .before .before .before .before .before .before .before .before .before .before .before .before .before .before .before .before .before .before .before .before .before .before .before .before .args in
+    let r = c .before .before .before .before .before .before .before .before .before .before .before .before .before .before .before .before .before .before .before .run-fragment in
+    let few : r .result .entries ≤ 8 = entries-few (a .live .now) _ (c .before .before .before .before .before .before .before .before .before .before .before .before .before .before .before .before .before .before .before .before .before .fragment-at .result) (a .cells .now) (r .result) (c .before .before .before .before .before .before .before .before .before .before .before .before .before .before .before .before .before .before .before .before .before .fragment-at .ensures) (r .ensures .0) in
+    let j = c .before .before .before .before .join-if in
+    let s = small-taking (a .c) (j .result) (r .result) (c .before .before .before .before .before .before .before .before .before .answer-if .result) (c .before .before .before .before .before .before .before .before .before .before .before .before .is-answered .result) (c .before .before .before .before .before .before .before .before .before .before .before .is-joining .result) (p .0) (p .1 .0) (p .1 .1) few (c .before .before .before .before .before .before .before .before .before .answer-if .ensures .0) (j .ensures .0) in (
+      s .0,
+      (
+        s .1,
+        λ gone us w ws sent room₀ wk ct top sd tk.
+            take-first-left (a .live .now) (a .runs .now) (a .undo .now) (a .room .now) (a .cells .now) (a .c) (c .before .before .before .before .before .before .before .before .before .before .before .before .before .before .before .before .before .before .before .before .before .before .number-at .result) (c .before .before .before .before .before .before .before .before .before .before .before .before .before .before .before .before .before .before .before .before .before .fragment-at .result) (r .result) (c .before .before .before .before .before .before .before .before .before .before .before .before .before .before .before .before .is-multi .result) (c .before .before .before .before .before .before .before .before .before .before .before .before .before .before .before .is-last .result)
+            (c .before .before .before .before .before .before .before .before .before .before .before .before .before .before .one-coordinator .result) (c .before .before .before .before .before .before .before .before .before .before .before .before .is-answered .result) (c .before .before .before .before .before .before .before .before .before .before .before .is-joining .result) (c .before .before .before .before .before .before .before .before .before .before .before .before .before .nearest-multi .result) (c .before .before .before .before .before .before .before .before .before .answer-if .result) (j .last .1 .0) (j .last .1 .1 .0) (c .before .before .before .before .before .before .before .before .before .answer-if .last .1 .0) (r .last .0) (j .result)
+            (record {
+              numbered = c .before .before .before .before .before .before .before .before .before .before .before .before .before .before .before .before .before .before .before .before .before .before .number-at .ensures;
+              fragment = c .before .before .before .before .before .before .before .before .before .before .before .before .before .before .before .before .before .before .before .before .before .fragment-at .ensures;
+              ran = r .ensures .0;
+              stands = r .ensures .1;
+              multi = c .before .before .before .before .before .before .before .before .before .before .before .before .before .before .before .before .is-multi .ensures;
+              last = c .before .before .before .before .before .before .before .before .before .before .before .before .before .before .before .is-last .ensures;
+              is-one = c .before .before .before .before .before .before .before .before .before .before .before .before .before .before .one-coordinator .ensures;
+              is-near = c .before .before .before .before .before .before .before .before .before .before .before .before .before .nearest-multi .ensures;
+              is-ans = c .before .before .before .before .before .before .before .before .before .before .before .before .is-answered .ensures;
+              is-joins = c .before .before .before .before .before .before .before .before .before .before .before .is-joining .ensures;
+              count = c .before .before .before .before .before .before .before .before .before .answer-if .ensures .0;
+              is-room = c .before .before .before .before .before .before .before .before .before .answer-if .ensures .1;
+              is-runs = j .ensures .1 .0;
+              is-undo = j .ensures .1 .1;
+              counts = j .ensures .0;
+            }) (p .0) gone us w ws sent room₀ wk ct top sd tk,
+      ),
+    )
+
+pub take-first-spec : {M : Type 1} → statement M
+take-first-spec =
+    tie.close
+    (tie.spec
+    add-at
+    mul-at
+    mul-from
+    cast-number-at
+    number-at-requires
+    fragment-at-requires
+    run-fragment-requires
+    is-multi-requires
+    is-last-requires
+    one-coordinator-requires
+    nearest-multi-requires
+    is-answered-requires
+    is-joining-requires
+    answer-if-requires
+    join-if-requires
+    same-length
+    same-length-2
+    same-length-3
+    same-length-4
+    returns)

@@ -1,0 +1,46 @@
+use Rattle.engine.specs.declared.counts.Counts.{Counts}
+use mathlib.Core.Path.{ap}
+use native.Mathlib.Omega.{arith}
+use Rattle.engine.proofs.Settling.{settled-both}
+use borrow.Author.Needs.{needs}
+use Rattle.engine.proofs.settle.settle.Statement.{statement}
+use Rattle.engine.proofs.settle.settle.Tie as tie
+use Rattle.engine.proofs.settle.settle.Reads as reads
+use Rattle.engine.proofs.settle.settle.Lts as lts
+use Rattle.engine.proofs.settle.new_front.Reads as new-front-reads
+use Rattle.engine.proofs.settle.settle_singles.Reads as settle-singles-reads
+
+settle-singles-requires : tie.Need-settle-singles-requires
+settle-singles-requires c κs = search needs
+
+new-front-requires : tie.Need-new-front-requires
+new-front-requires c κs = search needs
+
+same-length : tie.Need-same-length
+same-length c = search needs
+
+same-length-2 : tie.Need-same-length-2
+same-length-2 c = search needs
+
+same-length-3 : tie.Need-same-length-3
+same-length-3 c = search needs
+
+returns : tie.Need-returns
+returns c =
+    let a = c .before .before .before .before .before .before .before .before .before .before .before .before .before .before .before .before .before .before .before .before .before .args in
+    let s = c .before .before .before .before .before .before .before .before .before .before .before .before .before .settle-singles in
+    let n = c .before .before .before .before .new-front in (
+      omega (arith, c .before .before .before .before .before .before .before .before .before .before .before .before .before .settle-singles .ensures .0 .live, ap (λ (x : Counts). x .first) (c .before .before .before .before .new-front .ensures .0), ap (λ (x : Counts). x .uncommitted) (c .before .before .before .before .new-front .ensures .0), ap (λ (x : Counts). x .waiting) (c .before .before .before .before .new-front .ensures .0)),
+      settled-both (a .live .now) (a .runs .now) (a .undo .now) (a .room .now) (s .last .1 .0) (s .last .1 .1 .0) (s .last .1 .1 .1 .0) (n .last .1 .0) (n .last .1 .1 .0) (a .c) (s .result) (n .result) (s .ensures .1) (n .ensures .1),
+    )
+
+pub settle-spec : {M : Type 1} → statement M
+settle-spec =
+    tie.close
+    (tie.spec
+    settle-singles-requires
+    new-front-requires
+    same-length
+    same-length-2
+    same-length-3
+    returns)

@@ -1,0 +1,63 @@
+use native.Mathlib.Omega.{arith}
+use mathlib.Core.Path.{_≡_, refl}
+use Rattle.engine.proofs.Settling.{settled-one, settled-fair}
+use borrow.Author.Needs.{needs}
+use Rattle.engine.proofs.settle.settle_one.Statement.{statement}
+use Rattle.engine.proofs.settle.settle_one.Tie as tie
+use Rattle.engine.proofs.settle.settle_one.Reads as reads
+use Rattle.engine.proofs.settle.settle_one.Lts as lts
+use Rattle.operations.proofs.number_at.Reads as number-at-reads
+use Rattle.engine.proofs.settle.drop_front.Reads as drop-front-reads
+use Rattle.engine.proofs.settle.put_held.Reads as put-held-reads
+
+cast-number-at : tie.Need-cast-number-at
+cast-number-at c = search needs
+
+mul-number-at : tie.Need-mul-number-at
+mul-number-at c = search needs
+
+number-at-requires : tie.Need-number-at-requires
+number-at-requires c κs = search needs
+
+put-held-requires : tie.Need-put-held-requires
+put-held-requires c κs = search needs
+
+drop-front-requires : tie.Need-drop-front-requires
+drop-front-requires c κs = search needs
+
+same-length : tie.Need-same-length
+same-length c = search needs
+
+same-length-2 : tie.Need-same-length-2
+same-length-2 c = search needs
+
+same-length-3 : tie.Need-same-length-3
+same-length-3 c = search needs
+
+returns : tie.Need-returns
+returns c = let a = c .before .before .before .before .before .before .before .before .before .before .before .before .before .before .before .before .before .before .args in
+    let p = c .before .before .before .before .before .before .before .before .before .before .before .before .before .before .before .before .before .before .pre in
+    let h = c .before .before .before .before .before .before .before .before .before .put-held in
+    let d = c .before .before .before .before .drop-front in (
+      settled-fair (a .live .now) (a .runs .now) (a .undo .now) (a .room .now) (d .last .0) (d .last .1 .0) (h .last .0) (a .c) (d .result) _ (c .before .before .before .before .before .before .before .before .before .before .before .before .number-at .result) (h .result) (p .0) (p .1) (c .before .before .before .before .before .before .before .before .before .before .before .before .number-at .ensures) (h .ensures .0) (h .ensures .1)
+          (d .ensures .0) (d .ensures .1 .0 .2) (d .ensures .1 .0 .0) (d .ensures .1 .0 .1) refl,
+      (
+        d .ensures .1 .0 .0,
+        settled-one (a .live .now) (a .runs .now) (a .undo .now) (a .room .now) (d .last .0) (d .last .1 .0) (h .last .0) (a .c) (d .result) _ (c .before .before .before .before .before .before .before .before .before .before .before .before .number-at .result) (h .result) (p .0) (p .1) (c .before .before .before .before .before .before .before .before .before .before .before .before .number-at .ensures) (h .ensures .0) (h .ensures .1)
+            (d .ensures .1 .1) refl,
+      ),
+    )
+
+pub settle-one-spec : {M : Type 1} → statement M
+settle-one-spec =
+    tie.close
+    (tie.spec
+    cast-number-at
+    mul-number-at
+    number-at-requires
+    put-held-requires
+    drop-front-requires
+    same-length
+    same-length-2
+    same-length-3
+    returns)

@@ -1,0 +1,71 @@
+// "Arrival, number of the front": one more fragment of it runs.
+ghost use mathlib.Core.Path.{_≡_};
+ghost use Prim.Native.Nat.{_+_, _*_, _≤_, _<_};
+ghost use lib.Dec.{eqb};
+ghost use lib.Seq.{sets};
+ghost use Rattle.engine.specs.Work.{Fair, Continued};
+ghost use Rattle.record.specs.View.{numbersFrom};
+ghost use Rattle.model.specs.Operations.{pick};
+use crate::answers::put_answer;
+use crate::counts::Counts;
+use model::Fragment;
+use operations::Ran;
+
+// The entries of the front after one more fragment: its own behind the earlier ones, or none where it failed.
+pub(crate) fn note_entries(undo: &mut [u32], entries: u32, r: Ran) -> u32
+    requires { ⌜ (entries ≤ 184) × (r .entries ≤ 8) ⌝ }
+    ensures { λ n. ⌜ n ≡ pick (eqb (r .place) 0) (entries + r .entries) 0 ⌝ }
+    ensures { λ n. ⌜ now (undo .exit) ≡ pick (eqb (r .place) 0) (sets (now (undo .entry)) (2 * entries) (numbersFrom (r .undo) 0 (2 * r .entries))) (sets (now (undo .entry)) 0 (numbersFrom (now (undo .entry)) (2 * entries) (2 * entries))) ⌝ }
+{
+    if r.place == 0 {
+        let own = r.undo;
+        record::lay(
+            undo,
+            record::ENTRY_WIDTH * entries,
+            &own,
+            record::ENTRY_WIDTH * r.entries,
+        );
+        entries + r.entries
+    } else {
+        record::shift(
+            undo,
+            record::ENTRY_WIDTH * entries,
+            record::ENTRY_WIDTH * entries,
+        );
+        0
+    }
+}
+
+// "Arrival, number of the front (first uncommitted): run the fragment, answer with dependence 0"; the drain is still to come.
+pub(crate) fn continue_front(
+    live: &[u32],
+    runs: &mut [u32],
+    undo: &mut [u32],
+    cells: &mut [u32],
+    room: &mut [u32],
+    c: Counts,
+    f: Fragment,
+) -> Counts
+    requires { ⌜ Fair c ⌝ }
+    requires { ⌜ 0 < c .uncommitted ⌝ }
+    ensures { λ d. ⌜ d .first + d .uncommitted + d .waiting ≤ 64 ⌝ }
+    ensures { λ d. ⌜ Continued (now (live .entry)) (now (runs .entry)) (now (undo .entry)) (now (room .entry)) (now (cells .entry)) c f (now (runs .exit)) (now (undo .exit)) (now (room .exit)) (now (cells .exit)) d ⌝ }
+{
+    let number = operations::number_at(live, record::LIVE_WORDS * c.first as usize);
+    let r = operations::continue_fragment(cells, f, undo, c.entries);
+    let ran = operations::number_at(runs, 0);
+    let before = rows::least(ran, 7);
+    let last = operations::is_last(f);
+    let state = rows::state_after(last, r.place);
+    let entries = note_entries(undo, c.entries, r);
+    let w = rows::run_row(before + 1, state, 0, entries, 0, 0, [0u32; 8]);
+    record::lay(runs, 0, &w, record::RUN_WIDTH);
+    put_answer(room, c.answers, number, 0, r);
+    Counts {
+        first: c.first,
+        uncommitted: c.uncommitted,
+        waiting: c.waiting,
+        entries: entries,
+        answers: c.answers + 1,
+    }
+}

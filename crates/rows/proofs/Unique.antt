@@ -1,0 +1,68 @@
+-- Any two outcomes that the contracts of this crate's public functions allow are equal: what each returns and leaves in what was lent to it.
+use mathlib.Core.Path.{_≡_, refl}
+use Rattle.model.proofs.Unique.{Unique}
+use Rattle.rows.proofs.answer_row.Kinds as answer-row-kinds
+use Rattle.rows.proofs.answer_row.Reads as answer-row
+use Rattle.rows.proofs.run_row.Kinds as run-row-kinds
+use Rattle.rows.proofs.run_row.Reads as run-row
+use Rattle.rows.proofs.state_after.Kinds as state-after-kinds
+use Rattle.rows.proofs.state_after.Reads as state-after
+use Rattle.rows.proofs.begun_row.Kinds as begun-row-kinds
+use Rattle.rows.proofs.begun_row.Reads as begun-row
+use Rattle.rows.proofs.is_multi_row.Kinds as is-multi-row-kinds
+use Rattle.rows.proofs.is_multi_row.Reads as is-multi-row
+use Rattle.rows.proofs.same_coordinator.Kinds as same-coordinator-kinds
+use Rattle.rows.proofs.same_coordinator.Reads as same-coordinator
+use Rattle.rows.proofs.nearer.Kinds as nearer-kinds
+use Rattle.rows.proofs.nearer.Reads as nearer
+use Rattle.rows.proofs.is_answered.Kinds as is-answered-kinds
+use Rattle.rows.proofs.is_answered.Reads as is-answered
+use Rattle.rows.proofs.is_joining.Kinds as is-joining-kinds
+use Rattle.rows.proofs.is_joining.Reads as is-joining
+use Rattle.rows.proofs.blocks.Kinds as blocks-kinds
+use Rattle.rows.proofs.blocks.Reads as blocks
+use Rattle.rows.proofs.may_take.Kinds as may-take-kinds
+use Rattle.rows.proofs.may_take.Reads as may-take
+use Rattle.rows.proofs.held_row.Kinds as held-row-kinds
+use Rattle.rows.proofs.held_row.Reads as held-row
+use Rattle.rows.proofs.least.Kinds as least-kinds
+use Rattle.rows.proofs.least.Reads as least
+
+pub answer-row-unique : Unique answer-row-kinds.ps answer-row-kinds.r answer-row.Learnt
+answer-row-unique κs a z z′ ws ws′ p q = (cc, refl)
+
+pub run-row-unique : Unique run-row-kinds.ps run-row-kinds.r run-row.Learnt
+run-row-unique κs a z z′ ws ws′ p q = (cc, refl)
+
+pub state-after-unique : Unique state-after-kinds.ps state-after-kinds.r state-after.Learnt
+state-after-unique κs a z z′ ws ws′ p q = (cc, refl)
+
+pub begun-row-unique : Unique begun-row-kinds.ps begun-row-kinds.r begun-row.Learnt
+begun-row-unique κs a z z′ ws ws′ p q = (cc, refl)
+
+pub is-multi-row-unique : Unique is-multi-row-kinds.ps is-multi-row-kinds.r is-multi-row.Learnt
+is-multi-row-unique κs a z z′ ws ws′ p q = (cc, refl)
+
+pub same-coordinator-unique : Unique same-coordinator-kinds.ps same-coordinator-kinds.r same-coordinator.Learnt
+same-coordinator-unique κs a z z′ ws ws′ p q = (cc, refl)
+
+pub nearer-unique : Unique nearer-kinds.ps nearer-kinds.r nearer.Learnt
+nearer-unique κs a z z′ ws ws′ p q = (cc, refl)
+
+pub is-answered-unique : Unique is-answered-kinds.ps is-answered-kinds.r is-answered.Learnt
+is-answered-unique κs a z z′ ws ws′ p q = (cc, refl)
+
+pub is-joining-unique : Unique is-joining-kinds.ps is-joining-kinds.r is-joining.Learnt
+is-joining-unique κs a z z′ ws ws′ p q = (cc, refl)
+
+pub blocks-unique : Unique blocks-kinds.ps blocks-kinds.r blocks.Learnt
+blocks-unique κs a z z′ ws ws′ p q = (cc, refl)
+
+pub may-take-unique : Unique may-take-kinds.ps may-take-kinds.r may-take.Learnt
+may-take-unique κs a z z′ ws ws′ p q = (cc, refl)
+
+pub held-row-unique : Unique held-row-kinds.ps held-row-kinds.r held-row.Learnt
+held-row-unique κs a z z′ ws ws′ p q = (cc, refl)
+
+pub least-unique : Unique least-kinds.ps least-kinds.r least.Learnt
+least-unique κs a z z′ ws ws′ p q = (cc, refl)

@@ -1,0 +1,75 @@
+-- What is read off one row and what is laid in one: the words of an answer and of a run, and of the rows of live transactions.
+use Prim.Native.Nat.{ℕ, zero, suc, _+_, _*_, _-_, _%_}
+use mathlib.Core.Bool.{Bool, true, false, not, _&&_, _||_}
+use mathlib.Core.List.{List, [], _∷_, _++_}
+use lib.Dec.{leb, eqb}
+use lib.ListN.{getD, replicate}
+use Rattle.model.specs.Operations.{pick}
+use Rattle.model.specs.declared.Scheme.{Scheme}
+use Rattle.model.specs.declared.Scheme.the-variants.{Speculation, Blocking}
+use Rattle.operations.specs.declared.Ran.{Ran}
+use Rattle.record.specs.View.{numbersFrom}
+use Rattle.record.specs.Widths.{liveWidth, runWidth}
+
+-- the words of an answer and of a run, with the eight numbers as a row
+abbrev pub answerRow : ℕ → ℕ → ℕ → ℕ → List ℕ → List ℕ
+answerRow n d p c ns = n ∷ d ∷ p ∷ c ∷ ns ++ (0 ∷ 0 ∷ 0 ∷ 0 ∷ [])
+
+abbrev pub runRow : ℕ → ℕ → ℕ → ℕ → ℕ → ℕ → List ℕ → List ℕ
+runRow r s a e p c ns = r ∷ s ∷ a ∷ e ∷ p ∷ c ∷ ns ++ (0 ∷ 0 ∷ [])
+
+-- the word of the state after a fragment
+abbrev pub stateWordAfter : Bool → ℕ → ℕ
+stateWordAfter last place = pick (eqb place 0) (pick last 1 0) 2
+
+-- the run of one that ran its first fragment: its answer held or sent
+abbrev pub begunRow : Bool → Bool → Ran → List ℕ
+begunRow held last r =
+    pick held (runRow 1 (stateWordAfter last (r .place)) 1 (r .entries) (r .place) (r .count) (r .numbers))
+    (runRow 1 (stateWordAfter last (r .place)) 0 (r .entries) 0 0 (replicate 8 0))
+
+-- a live transaction's row at place b: a single's, or with coordinator k; its number if it is a multi's, else d
+abbrev pub sameRow : List ℕ → ℕ → ℕ → Bool
+sameRow l b k = pick (eqb (getD l (b + 1) 0 % 2) 1) (eqb (getD l (b + 2) 0) k) true
+
+abbrev pub nearRow : List ℕ → ℕ → ℕ → ℕ
+nearRow l b d = pick (eqb (getD l (b + 1) 0 % 2) 1) (getD l b 0) d
+
+-- what one turn of the drain decides: is the one that ran answered now, does it join the uncommitted ones
+abbrev pub answeredNow : ℕ → Bool → Bool → Bool
+answeredNow u m one = eqb u 0 || (m && one)
+
+abbrev pub joinsQueue : ℕ → Bool → Bool
+joinsQueue u m = not (eqb u 0) || m
+
+abbrev pub blocking : Scheme → Bool
+blocking Speculation = false
+blocking Blocking = true
+
+-- may the drain go on: nothing is uncommitted, or the scheme does not block, fewer than 16 are and the word of the last one's state says that it is
+-- finished
+abbrev pub mayTakeRow : Scheme → List ℕ → ℕ → Bool
+mayTakeRow σ runs u = pick (blocking σ) (eqb u 0) (pick (eqb u 0) true (pick (leb 16 u) false (pick (eqb (getD runs (runWidth * (u - 1) + 1) 0) 1) true (eqb (getD runs (runWidth * (u - 1) + 1) 0) 2))))
+
+-- the answer that the run at place b holds, as words, with a dependence: none where its reply word is not 1
+abbrev pub holdsRow : List ℕ → ℕ → Bool
+holdsRow runs b = eqb (getD runs (b + 2) 0) 1
+
+abbrev pub heldRow : List ℕ → ℕ → ℕ → ℕ → List ℕ
+heldRow runs b n d = n ∷ d ∷ numbersFrom runs (b + 4) 10 ++ (0 ∷ 0 ∷ 0 ∷ 0 ∷ [])
+
+abbrev pub multiRow : List ℕ → ℕ → Bool
+multiRow live b = eqb (getD live (b + 1) 0 % 2) 1
+
+-- the words of the run at place b with its answer sent
+abbrev pub sentRow : List ℕ → ℕ → List ℕ
+sentRow runs b = runRow (getD runs b 0) (getD runs (b + 1) 0) 0 (getD runs (b + 3) 0) 0 0 (replicate 8 0)
+
+-- the same of n rows from place b on
+unfoldable pub oneRows : List ℕ → ℕ → ℕ → ℕ → Bool
+oneRows l b zero k = true
+oneRows l b (suc n) k = sameRow l b k && oneRows l (b + liveWidth) n k
+
+unfoldable pub nearRows : ℕ → List ℕ → ℕ → ℕ → ℕ
+nearRows d l b zero = d
+nearRows d l b (suc n) = nearRows (nearRow l b d) l (b + liveWidth) n

@@ -1,0 +1,207 @@
+// The words of an answer and of a run, and what the steps read off one row. Each function answers for every input.
+ghost use mathlib.Core.Path.{_≡_};
+ghost use Prim.Native.Nat.{_*_, min};
+ghost use Rattle.record.specs.Widths.{runWidth};
+ghost use Rattle.rows.specs.Rows.{answerRow, runRow, stateWordAfter, begunRow, sameRow, nearRow, answeredNow, joinsQueue, blocking, mayTakeRow, heldRow, multiRow};
+use model::Scheme;
+use operations::Ran;
+
+// The words of an answer, as a number of a place in the room.
+pub const ANSWER_WIDTH: u32 = 16;
+
+// The words of an answer.
+pub fn answer_row(
+    number: u32,
+    dependence: u32,
+    place: u32,
+    count: u32,
+    numbers: [u32; 8],
+) -> [u32; model::ANSWER_WORDS]
+    ensures { λ r. ⌜ r ≡ answerRow number dependence place count numbers ⌝ }
+{
+    [
+        number,
+        dependence,
+        place,
+        count,
+        numbers[0],
+        numbers[1],
+        numbers[2],
+        numbers[3],
+        numbers[4],
+        numbers[5],
+        numbers[6],
+        numbers[7],
+        0,
+        0,
+        0,
+        0,
+    ]
+}
+
+// The words of a run.
+pub fn run_row(
+    ran: u32,
+    state: u32,
+    reply: u32,
+    entries: u32,
+    place: u32,
+    count: u32,
+    numbers: [u32; 8],
+) -> [u32; record::RUN_WORDS]
+    ensures { λ r. ⌜ r ≡ runRow ran state reply entries place count numbers ⌝ }
+{
+    [
+        ran,
+        state,
+        reply,
+        entries,
+        place,
+        count,
+        numbers[0],
+        numbers[1],
+        numbers[2],
+        numbers[3],
+        numbers[4],
+        numbers[5],
+        numbers[6],
+        numbers[7],
+        0,
+        0,
+    ]
+}
+
+// The word of the state after a fragment: "finished locally when its last fragment has run or when it has failed".
+pub fn state_after(last: bool, place: u32) -> u32
+    ensures { λ r. ⌜ r ≡ stateWordAfter last place ⌝ }
+{
+    if place == 0 {
+        if last { 1 } else { 0 }
+    } else {
+        2
+    }
+}
+
+// The run of one that ran its first fragment.
+pub fn begun_row(held: bool, last: bool, r: Ran) -> [u32; record::RUN_WORDS]
+    ensures { λ w. ⌜ w ≡ begunRow held last r ⌝ }
+{
+    let state = state_after(last, r.place);
+    if held {
+        let numbers = r.numbers;
+        run_row(1, state, 1, r.entries, r.place, r.count, numbers)
+    } else {
+        run_row(1, state, 0, r.entries, 0, 0, [0u32; 8])
+    }
+}
+
+// Is the transaction whose row starts at `at` a multi?
+pub fn is_multi_row(live: &[u32], at: u32) -> bool
+    ensures { λ r. ⌜ r ≡ multiRow (now (live .entry)) at ⌝ }
+{
+    let flags = operations::number_at(live, at as usize + 1);
+    flags % 2 == 1
+}
+
+// A row of the live row that is a single's, or has coordinator k.
+pub fn same_coordinator(live: &[u32], at: u32, k: u32) -> bool
+    ensures { λ r. ⌜ r ≡ sameRow (now (live .entry)) at k ⌝ }
+{
+    let flags = operations::number_at(live, at as usize + 1);
+    if flags % 2 == 1 {
+        let other = operations::number_at(live, at as usize + 2);
+        other == k
+    } else {
+        true
+    }
+}
+
+// The number of a row that is a multi's, d for a single's.
+pub fn nearer(live: &[u32], at: u32, d: u32) -> u32
+    ensures { λ r. ⌜ r ≡ nearRow (now (live .entry)) at d ⌝ }
+{
+    let flags = operations::number_at(live, at as usize + 1);
+    if flags % 2 == 1 {
+        operations::number_at(live, at as usize)
+    } else {
+        d
+    }
+}
+
+// Is the one that ran answered now: with nothing uncommitted, or a multi with one coordinator.
+pub fn is_answered(uncommitted: u32, multi: bool, one: bool) -> bool
+    ensures { λ r. ⌜ r ≡ answeredNow uncommitted multi one ⌝ }
+{
+    if uncommitted == 0 {
+        true
+    } else {
+        if multi { one } else { false }
+    }
+}
+
+// Does it join the uncommitted ones: all but a single with nothing uncommitted.
+pub fn is_joining(uncommitted: u32, multi: bool) -> bool
+    ensures { λ r. ⌜ r ≡ joinsQueue uncommitted multi ⌝ }
+{
+    if uncommitted == 0 { multi } else { true }
+}
+
+// Does nothing run behind an uncommitted one?
+pub fn blocks(scheme: Scheme) -> bool
+    ensures { λ r. ⌜ r ≡ blocking scheme ⌝ }
+{
+    match scheme {
+        Scheme::Speculation => false,
+        Scheme::Blocking => true,
+    }
+}
+
+// "either nothing is uncommitted or fewer than 16 are and the last of them is finished locally"; blocking, nothing is uncommitted
+pub fn may_take(scheme: Scheme, runs: &[u32], uncommitted: u32) -> bool
+    ensures { λ r. ⌜ r ≡ mayTakeRow scheme (now (runs .entry)) uncommitted ⌝ }
+{
+    if blocks(scheme) {
+        return uncommitted == 0;
+    }
+    if uncommitted == 0 {
+        return true;
+    }
+    if model::DEPTH <= uncommitted {
+        return false;
+    }
+    let state = operations::number_at(runs, record::RUN_WORDS * (uncommitted as usize - 1) + 1);
+    if state == 1 {
+        return true;
+    }
+    state == 2
+}
+
+// The words of the answer that run number i holds, with a dependence.
+pub fn held_row(runs: &[u32], i: u32, number: u32, dependence: u32) -> [u32; model::ANSWER_WORDS]
+    ensures { λ w. ⌜ w ≡ heldRow (now (runs .entry)) (runWidth * i) number dependence ⌝ }
+{
+    let b = record::RUN_WORDS * i as usize;
+    let place = operations::number_at(runs, b + 4);
+    let count = operations::number_at(runs, b + 5);
+    let n0 = operations::number_at(runs, b + 6);
+    let n1 = operations::number_at(runs, b + 7);
+    let n2 = operations::number_at(runs, b + 8);
+    let n3 = operations::number_at(runs, b + 9);
+    let n4 = operations::number_at(runs, b + 10);
+    let n5 = operations::number_at(runs, b + 11);
+    let n6 = operations::number_at(runs, b + 12);
+    let n7 = operations::number_at(runs, b + 13);
+    answer_row(
+        number,
+        dependence,
+        place,
+        count,
+        [n0, n1, n2, n3, n4, n5, n6, n7],
+    )
+}
+
+pub fn least(a: u32, b: u32) -> u32
+    ensures { λ r. ⌜ r ≡ min a b ⌝ }
+{
+    if a < b { a } else { b }
+}
