@@ -76,8 +76,8 @@ together (l ∷ ls) = l ++ together ls
 unfoldable pub listingOf : List ℕ → List ℕ → List ℕ
 listingOf word bytes = together (linesFor word bytes)
 
--- A buffer shows the text from one place on: a byte that stands at another place of the text, in it; one that stands before what it shows,
--- or behind, is not
+-- A buffer shows the text from one place on. Here is one byte of the text, at its place: one that stands before what the buffer shows, or behind
+-- it, leaves no trace.
 unfoldable pub seen : ℕ → List ℕ → ℕ → ℕ → List ℕ
 seen from buffer at b = pick (leb from at) (set buffer (at - from) b) buffer
 

@@ -1,5 +1,6 @@
 // What the trace program of document 01 prints for the word of its command and for the bytes that it read: all of its text, put into a lent
-// buffer piece by piece, as a buffer has a size and a text may be longer. The first word of the command names the scheme, speculation without a word; one that names no scheme gets `bad scheme` alone.
+// buffer part by part, since a text may be longer than a buffer. The first word of the command names the scheme, speculation without a word;
+// one that names no scheme gets `bad scheme` alone.
 ghost use Prim.Native.Nat.{_+_, _*_, _<_, _≤_};
 ghost use mathlib.Core.Path.{_≡_};
 ghost use lib.ListN.{length, take, drop, replicate};

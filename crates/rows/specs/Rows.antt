@@ -35,7 +35,7 @@ sameRow l b k = pick (eqb (getD l (b + 1) 0 % 2) 1) (eqb (getD l (b + 2) 0) k) t
 abbrev pub nearRow : List ℕ → ℕ → ℕ → ℕ
 nearRow l b d = pick (eqb (getD l (b + 1) 0 % 2) 1) (getD l b 0) d
 
--- what one turn of the drain decides: is the one that ran answered now, does it join the uncommitted ones
+-- what the drain decides of one that ran: is it answered now, does it join the uncommitted ones
 abbrev pub answeredNow : ℕ → Bool → Bool → Bool
 answeredNow u m one = eqb u 0 || (m && one)
 
@@ -65,7 +65,7 @@ multiRow live b = eqb (getD live (b + 1) 0 % 2) 1
 abbrev pub sentRow : List ℕ → ℕ → List ℕ
 sentRow runs b = runRow (getD runs b 0) (getD runs (b + 1) 0) 0 (getD runs (b + 3) 0) 0 0 (replicate 8 0)
 
--- the same of n rows from place b on
+-- what `sameRow` asks and `nearRow` gives, of n rows from place b on
 unfoldable pub oneRows : List ℕ → ℕ → ℕ → ℕ → Bool
 oneRows l b zero k = true
 oneRows l b (suc n) k = sameRow l b k && oneRows l (b + liveWidth) n k
