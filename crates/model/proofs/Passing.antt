@@ -20,26 +20,42 @@ none-applies (r ∷ rs) p h = go (r .1) refl (λ k. none-applies rs (p .1) k) h
     go true e f k = let x : 0 < r .0 = p .0 in absurd (omega arith)
     go false e f k = (e, f k)
 
-pub passed : (e : Engine) (c : Call) → refusal e c ≡ 0 → Passed e c
+-- what the row of number n asks
+abbrev rowOf : ℕ → List (ℕ × Bool) → Bool
+rowOf n [] = false
+rowOf n (r ∷ rs) = elim (eqb (r .0) n) [ true ↦ r .1 | false ↦ rowOf n rs ]
+
+row-none : (n : ℕ) (rs : List (ℕ × Bool)) → All (λ (r : ℕ × Bool). r .1 ≡ false) rs → rowOf n rs ≡ false
+row-none n [] h = refl
+row-none n (r ∷ rs) h = go (eqb (r .0) n) (row-none n rs (h .1))
+  where
+    go : (b : Bool) → rowOf n rs ≡ false → _≡_ {A = Bool} (elim b [ true ↦ r .1 | false ↦ rowOf n rs ]) false
+    go true k = h .0
+    go false k = k
+
+-- a row by the number that it returns
+row : (e : Engine) (c : Call) → refusal e c ≡ 0 → (n : ℕ) → rowOf n (rows e c) ≡ false
 unfolding refusal rows
-passed e c h =
-    let p = none-applies (rows e c) (omega arith) h in
-    record {
-      one = p .0;
-      two = p .1 .0;
-      three = p .1 .1 .0;
-      four = p .1 .1 .1 .0;
-      five = p .1 .1 .1 .1 .0;
-      six = p .1 .1 .1 .1 .1 .0;
-      seven = p .1 .1 .1 .1 .1 .1 .0;
-      eight = p .1 .1 .1 .1 .1 .1 .1 .0;
-      nine = p .1 .1 .1 .1 .1 .1 .1 .1 .0;
-      ten = p .1 .1 .1 .1 .1 .1 .1 .1 .1 .0;
-      eleven = p .1 .1 .1 .1 .1 .1 .1 .1 .1 .1 .0;
-      twelve = p .1 .1 .1 .1 .1 .1 .1 .1 .1 .1 .1 .0;
-      thirteen = p .1 .1 .1 .1 .1 .1 .1 .1 .1 .1 .1 .1 .0;
-      fourteen = p .1 .1 .1 .1 .1 .1 .1 .1 .1 .1 .1 .1 .1 .0;
-    }
+row e c h n = row-none n (rows e c) (none-applies (rows e c) (omega arith) h)
+
+pub passed : (e : Engine) (c : Call) → refusal e c ≡ 0 → Passed e c
+unfolding rows
+passed e c h = record {
+  one = row e c h 1;
+  two = row e c h 2;
+  three = row e c h 3;
+  four = row e c h 4;
+  five = row e c h 5;
+  six = row e c h 6;
+  seven = row e c h 7;
+  eight = row e c h 8;
+  nine = row e c h 9;
+  ten = row e c h 10;
+  eleven = row e c h 11;
+  twelve = row e c h 12;
+  thirteen = row e c h 13;
+  fourteen = row e c h 14;
+}
 
 -- a call that returned 0 was refused by none
 pub took : (e : Engine) (c : Call) → step e c .number ≡ 0 → refusal e c ≡ 0

@@ -75,83 +75,56 @@ pub entries-depth : (ct top : ℕ) (us : List Uncommitted) (ws : List Waiting) �
 entries-depth ct top [] ws s = omega arith
 entries-depth ct top (u ∷ us) ws s = omega (arith, length-append (u .undo) (undoList us), entries-behind ct us (s .each .1) (s .ones), s .each .0 .few, s .each .0 .eight, s .sixteen)
 
+-- a clause is found among them by what it says
 pub sound-parts : (e : Engine) → sound e ≡ true → SoundEngine e
 unfolding sound clauses
 sound-parts e h =
     let c = every-all (λ (b : Bool). b) (clauses e) h in
     record {
-      cells = leb-true (e .count) mostCells (c .0);
-      sixteen = leb-true (length (e .uncommitted)) depth (c .1 .0);
-      sixtyFour = leb-true (length (e .uncommitted) + length (e .waiting)) mostLive (c .1 .1 .0);
-      rises = rising-rises 0 (e .largest) (numbers (e .uncommitted) (e .waiting)) (c .1 .1 .1 .1 .1 .0);
+      cells = leb-true (e .count) mostCells (search c);
+      sixteen = leb-true (length (e .uncommitted)) depth (search c);
+      sixtyFour = leb-true (length (e .uncommitted) + length (e .waiting)) mostLive (search c);
+      rises = rising-rises 0 (e .largest) (numbers (e .uncommitted) (e .waiting)) (search c);
       each = each-of (e .count) (e .uncommitted)
-          (every-all _ (e .uncommitted) (c .1 .1 .1 .1 .0))
-          (every-all _ (e .uncommitted) (c .1 .1 .1 .1 .1 .1 .0))
-          (every-all _ (e .uncommitted) (c .1 .1 .1 .1 .1 .1 .1 .1 .0))
-          (every-all _ (e .uncommitted) (c .1 .1 .1 .1 .1 .1 .1 .1 .1 .1 .1 .0))
-          (every-all _ (e .uncommitted) (c .1 .1 .1 .1 .1 .1 .1 .1 .1 .1 .1 .1 .1 .0))
-          (c .1 .1 .1 .1 .1 .1 .1 .1 .1 .1 .1 .1 .1 .1 .0)
-          (every-all _ (e .uncommitted) (c .1 .1 .1 .1 .1 .1 .1 .1 .1 .1 .1 .1 .1 .1 .1 .0))
-          (every-all _ (e .uncommitted) (c .1 .1 .1 .1 .1 .1 .1 .1 .1 .1 .1 .1 .1 .1 .1 .1 .0));
-      waiting = every-all _ (e .waiting) (c .1 .1 .1 .1 .1 .1 .1 .0);
+          (every-all _ (e .uncommitted) (search c))
+          (every-all _ (e .uncommitted) (search c))
+          (every-all _ (e .uncommitted) (search c))
+          (every-all _ (e .uncommitted) (search c))
+          (every-all _ (e .uncommitted) (search c))
+          (search c)
+          (every-all _ (e .uncommitted) (search c))
+          (every-all _ (e .uncommitted) (search c));
+      waiting = every-all _ (e .waiting) (search c);
       ones = all-map (λ (u : Uncommitted). leb (u .ran) 1 ≡ true) (λ (u : Uncommitted). u .ran ≤ 1) (λ u k. leb-true (u .ran) 1 k) (behind (e .uncommitted))
-          (every-all _ (behind (e .uncommitted)) (c .1 .1 .1 .1 .1 .1 .1 .1 .1 .0));
-      front = not-true (front badFront (e .uncommitted)) (c .1 .1 .1 .1 .1 .1 .1 .1 .1 .1 .0);
-      ready = c .1 .1 .1 .1 .1 .1 .1 .1 .1 .1 .1 .1 .0;
+          (every-all _ (behind (e .uncommitted)) (search c));
+      front = not-true (front badFront (e .uncommitted)) (search c);
+      ready = search c;
     }
 
--- To the test
+-- To the test: the clauses in their order, one below the other
+
+infixr 5 _also_
+_also_ : {a b : Bool} → a ≡ true → b ≡ true → (a && b) ≡ true
+_also_ {a} {b} h k = both a b h k
 
 pub parts-sound : (e : Engine) → SoundEngine e → sound e ≡ true
 unfolding sound clauses
 parts-sound e s =
-    all-every (λ (b : Bool). b) (clauses e) (
-      le-leb (e .count) mostCells (s .cells),
-      (
-        le-leb (length (e .uncommitted)) depth (s .sixteen),
-        (
-          le-leb (length (e .uncommitted) + length (e .waiting)) mostLive (s .sixtyFour),
-          (
-            le-leb (length (undoList (e .uncommitted))) mostEntries (entries-most (e .count) (e .uncommitted) (s .sixteen) (s .each) (s .ones)),
-            (
-              clause (e .count) (λ (u : Uncommitted). leb (u .ran) mostFragments) (λ u o. le-leb (u .ran) mostFragments (o .eight)) (e .uncommitted) (s .each),
-              (
-                rises-rising 0 (e .largest) (numbers (e .uncommitted) (e .waiting)) (s .rises),
-                (
-                  clause (e .count) (λ (u : Uncommitted). storable (e .count) (u .first)) (λ u o. o .stored) (e .uncommitted) (s .each),
-                  (
-                    all-every (λ (w : Waiting). storable (e .count) (w .fragment)) (e .waiting) (s .waiting),
-                    (
-                      clause (e .count) (λ (u : Uncommitted). leb 1 (u .ran)) (λ u o. le-leb 1 (u .ran) (o .some)) (e .uncommitted) (s .each),
-                      (
-                        all-every (λ (u : Uncommitted). leb (u .ran) 1) (behind (e .uncommitted))
-                            (all-map (λ (u : Uncommitted). u .ran ≤ 1) (λ (u : Uncommitted). leb (u .ran) 1 ≡ true) (λ u k. le-leb (u .ran) 1 k) (behind (e .uncommitted)) (s .ones)),
-                        (
-                          ap not (s .front),
-                          (
-                            clause (e .count) (λ (u : Uncommitted). multi (u .first) || holds (u .reply)) (λ u o. o .held) (e .uncommitted) (s .each),
-                            (
-                              s .ready,
-                              (
-                                clause (e .count) (λ (u : Uncommitted). fits (u .reply)) (λ u o. o .fits) (e .uncommitted) (s .each),
-                                (
-                                  inside-all (e .count) (e .uncommitted) (s .each),
-                                  (
-                                    clause (e .count) (λ (u : Uncommitted). leb (length (u .undo)) (8 * u .ran)) (λ u o. le-leb (length (u .undo)) (8 * u .ran) (o .few)) (e .uncommitted) (s .each),
-                                    (clause (e .count) (λ (u : Uncommitted). isState (u .state) && isReply (u .reply)) (λ u o. o .read) (e .uncommitted) (s .each), tt),
-                                  ),
-                                ),
-                              ),
-                            ),
-                          ),
-                        ),
-                      ),
-                    ),
-                  ),
-                ),
-              ),
-            ),
-          ),
-        ),
-      ),
-    )
+    le-leb (e .count) mostCells (s .cells)
+    also le-leb (length (e .uncommitted)) depth (s .sixteen)
+    also le-leb (length (e .uncommitted) + length (e .waiting)) mostLive (s .sixtyFour)
+    also le-leb (length (undoList (e .uncommitted))) mostEntries (entries-most (e .count) (e .uncommitted) (s .sixteen) (s .each) (s .ones))
+    also clause (e .count) (λ (u : Uncommitted). leb (u .ran) mostFragments) (λ u o. le-leb (u .ran) mostFragments (o .eight)) (e .uncommitted) (s .each)
+    also rises-rising 0 (e .largest) (numbers (e .uncommitted) (e .waiting)) (s .rises)
+    also clause (e .count) (λ (u : Uncommitted). storable (e .count) (u .first)) (λ u o. o .stored) (e .uncommitted) (s .each)
+    also all-every (λ (w : Waiting). storable (e .count) (w .fragment)) (e .waiting) (s .waiting)
+    also clause (e .count) (λ (u : Uncommitted). leb 1 (u .ran)) (λ u o. le-leb 1 (u .ran) (o .some)) (e .uncommitted) (s .each)
+    also all-every (λ (u : Uncommitted). leb (u .ran) 1) (behind (e .uncommitted)) (all-map (λ (u : Uncommitted). u .ran ≤ 1) (λ (u : Uncommitted). leb (u .ran) 1 ≡ true) (λ u k. le-leb (u .ran) 1 k) (behind (e .uncommitted)) (s .ones))
+    also ap not (s .front)
+    also clause (e .count) (λ (u : Uncommitted). multi (u .first) || holds (u .reply)) (λ u o. o .held) (e .uncommitted) (s .each)
+    also s .ready
+    also clause (e .count) (λ (u : Uncommitted). fits (u .reply)) (λ u o. o .fits) (e .uncommitted) (s .each)
+    also inside-all (e .count) (e .uncommitted) (s .each)
+    also clause (e .count) (λ (u : Uncommitted). leb (length (u .undo)) (8 * u .ran)) (λ u o. le-leb (length (u .undo)) (8 * u .ran) (o .few)) (e .uncommitted) (s .each)
+    also clause (e .count) (λ (u : Uncommitted). isState (u .state) && isReply (u .reply)) (λ u o. o .read) (e .uncommitted) (s .each)
+    also refl

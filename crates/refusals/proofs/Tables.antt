@@ -109,7 +109,7 @@ module _ (σ : Scheme) (count largest u w : ℕ) (live runs undo : List ℕ) (v 
     module _ (zs : s ≡ 0) (k : ℕ) (ek : k ≡ firstOf (knownRows lives fresh isFirst)) where
       behind : firstOf (knownRows lives fresh isFirst ++ rest) ≡ whole
       behind =
-          sym (first-miss (shapeRows count v cells room) (knownRows lives fresh isFirst ++ rest) (omega arith, (omega arith, (omega arith, (omega arith, tt)))) (sym es ∙ zs))
+          sym (first-miss (shapeRows count v cells room) (knownRows lives fresh isFirst ++ rest) (omega arith) (sym es ∙ zs))
           ∙ sym cut
 
       pub by-known : (k ≡ 0 → ⊥) → k ≡ whole
@@ -117,7 +117,7 @@ module _ (σ : Scheme) (count largest u w : ℕ) (live runs undo : List ℕ) (v 
 
       module _ (zk : k ≡ 0) where
         beyond : firstOf rest ≡ whole
-        beyond = sym (first-miss (knownRows lives fresh isFirst) rest (omega arith, (omega arith, tt)) (sym ek ∙ zk)) ∙ behind
+        beyond = sym (first-miss (knownRows lives fresh isFirst) rest (omega arith) (sym ek ∙ zk)) ∙ behind
 
         pub by-fragment : v .kind ≡ 1 → firstOf (fragmentRows (u + w) fresh isFirst live runs (v .fragment)) ≡ whole
         unfolding memberAt
