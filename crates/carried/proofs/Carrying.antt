@@ -212,6 +212,7 @@ module _ (cs : Cells) where
           rises = to (numbersOf (settledOf (here .log) ++ liveOf (here .log))) (x .rises);
           more = x .more;
           grows = x .grows;
+          named = x .named;
         }
       where
         -- to the largest of the record itself

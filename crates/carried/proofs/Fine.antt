@@ -63,8 +63,8 @@ placed-fine (u ∷ us) w cs k e = placed-behind (λ (p : Place). All Kept (p .un
     join : (a : Reply) → length (heldOutcome a .numbers) ≤ 8 → All Kept (u ∷ us ++ (begun w (run (w .fragment) cs []) a ∷ []))
     join a h = all-append Kept (u ∷ us) (begun w (run (w .fragment) cs []) a ∷ []) k ((e, h), tt)
 
-sending-fine : (l : List Answer) (q : Queues) → All Small l → Fine q → Fine (sending l q)
-sending-fine l q s f = record { uncommitted = f .uncommitted; waiting = f .waiting; answers = all-append Small l (q .answers) s (f .answers) }
+sending-fine : (l : List Answer) (ns : List ℕ) (q : Queues) → All Small l → Fine q → Fine (sending l ns q)
+sending-fine l ns q s f = record { uncommitted = f .uncommitted; waiting = f .waiting; answers = all-append Small l (q .answers) s (f .answers) }
 
 drain-fine : (σ : Scheme) (cs : Cells) (us : List Uncommitted) (ws : List Waiting) → All Kept us → All Eight ws → Fine (drain σ cs us ws)
 unfolding drain
@@ -74,7 +74,7 @@ drain-fine σ cs us (w ∷ ws) k e =
     let h = placed-fine us w cs k (e .0) in
     let f = drain-fine σ (run (w .fragment) cs [] .cells) (p .uncommitted) ws (h .0) (e .1) in
     drain-cases Fine σ cs us w ws (λ _. record { uncommitted = k; waiting = e; answers = tt })
-    (λ _. sending-fine (p .answers) (drain σ (run (w .fragment) cs [] .cells) (p .uncommitted) ws) (h .1) f)
+    (λ _. sending-fine (p .answers) (p .settles) (drain σ (run (w .fragment) cs [] .cells) (p .uncommitted) ws) (h .1) f)
 
 held-small : (u : Uncommitted) → Fit u → All Small (heldBy u)
 held-small u h = held-cases (All Small) u (λ o e. (subst (λ (a : Reply). length (heldOutcome a .numbers) ≤ 8) e h, tt)) (λ _. tt)
@@ -103,14 +103,14 @@ arrived-fine σ n f cs (u ∷ us) ws h k e = go (eqb (u .number) n)
 
     go : (b : Bool) → Fine (elim b [ false ↦ joined σ n f cs (u ∷ us) ws | true ↦ continued σ f cs u us ws ])
     go false = joined-fine σ n f cs (u ∷ us) ws h k e
-    go true = sending-fine (answer (u .number) 0 (r .outcome) ∷ []) (drain σ (r .cells) (again u f r ∷ us) ws) (run-small f cs (u .undo) h, tt)
+    go true = sending-fine (answer (u .number) 0 (r .outcome) ∷ []) [] (drain σ (r .cells) (again u f r ∷ us) ws) (run-small f cs (u .undo) h, tt)
         (drain-fine σ (r .cells) (again u f r ∷ us) ws ((k .0 .0, omega arith), k .1) e)
 
 committed-fine : (σ : Scheme) (cs : Cells) (us : List Uncommitted) (ws : List Waiting) → All Kept us → All Eight ws → Fine (committed σ cs us ws)
 committed-fine σ cs [] ws k e = record { uncommitted = tt; waiting = e; answers = tt }
 committed-fine σ cs (u ∷ us) ws k e =
     let x = settled-fine us (k .1) in
-    sending-fine (settled us .answers) (drain σ cs (settled us .uncommitted) ws) (x .1) (drain-fine σ cs (settled us .uncommitted) ws (x .0) e)
+    sending-fine (settled us .answers) (u .number ∷ settled us .settles) (drain σ cs (settled us .uncommitted) ws) (x .1) (drain-fine σ cs (settled us .uncommitted) ws (x .0) e)
 
 aborted-fine : (σ : Scheme) (cs : Cells) (us : List Uncommitted) (ws : List Waiting) → All Kept us → All Eight ws → Fine (aborted σ cs us ws)
 aborted-fine σ cs [] ws k e = record { uncommitted = tt; waiting = e; answers = tt }

@@ -7,7 +7,7 @@ use lib.ListN.{length, take, getD}
 use Rattle.model.specs.Limits.{leastRoom, answerWords}
 use Rattle.model.specs.Operations.{Cells}
 use Rattle.model.specs.Transactions.{Answer, answer, numbers}
-use Rattle.model.specs.Refusals.{Abort, Commit, request, Call}
+use Rattle.model.specs.Refusals.{Abort, Commit, request, Call, settlesBy}
 use Rattle.model.specs.Serial.{Tx, serial}
 use Rattle.model.specs.Demand.{Log, noticed, settledOf, liveOf, settledBy, numbersOf, Rises, Gives}
 use Rattle.model.specs.Demand as Demand
@@ -94,6 +94,7 @@ pub record SettlingOrderR (r : RecordRun) (c : Call) : Type 0 where
   pub rises : Rises 0 (r .kept .largest) (numbersOf (settledOf (r .log) ++ liveOf (r .log)))
   pub more : List Tx
   pub grows : settledOf (onwardR r c .log) ≡ settledOf (r .log) ++ more
+  pub named : numbersOf more ≡ settlesBy (returned (r .kept) c .number) (view (r .kept)) c
 
 abbrev pub PlainRightR : Cells → RecordRun → Call → Type 0
 PlainRightR cs r c =

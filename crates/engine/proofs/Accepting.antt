@@ -43,10 +43,11 @@ pub record Begun (σ : Scheme) (live runs undo room : List ℕ) (cells : Cells) 
   pub us : List Uncommitted
   pub ws : List Waiting
   pub sent : List Answer
+  pub names : List ℕ
   pub work : Work live runs undo room c gone us ws sent room₀
   pub sound : Sound ct top us ws
   pub small : Small c
-  pub rest : sending sent (Steps.drain σ cells us ws) ≡ q
+  pub rest : sending sent names (Steps.drain σ cells us ws) ≡ q
 
 pub drained-left : (σ : Scheme) (live runs undo room runs′ undo′ room′ : List ℕ) (cells cells′ : Cells) (c c′ : Counts) (room₀ : List ℕ) (q : Queues) → Begun σ live runs undo room cells c room₀ q
     → Drained σ live runs undo room cells c runs′ undo′ room′ cells′ c′ → Left live runs′ undo′ room′ c′ cells′ [] room₀ q
@@ -104,10 +105,11 @@ begun-aborted σ live runs undo room runs′ undo′ cells cells′ c c′ ct to
       us = [];
       ws = map requeued us ++ ws;
       sent = [];
+      names = [];
       work = a .0;
       sound = sd;
       small = small-of live runs′ undo′ room c′ (requeued u ∷ []) [] (map requeued us ++ ws) [] room ct top (a .0) sd k (omega (arith, sd .sixtyFour));
-      rest = ap (λ (x : Cells). sending [] (Steps.drain σ x [] (map requeued us ++ ws))) (a .1);
+      rest = ap (λ (x : Cells). sending [] [] (Steps.drain σ x [] (map requeued us ++ ws))) (a .1);
     }
 
 -- Commit
@@ -126,6 +128,7 @@ begun-committed σ live runs undo room runs′ undo′ room′ cells c c′ ct t
       us = settled us .uncommitted;
       ws = ws;
       sent = settled us .answers;
+      names = u .number ∷ settled us .settles;
       work = a .1;
       sound = y .0;
       small = small-of live runs′ undo′ room′ c′ (a .0) (settled us .uncommitted) ws (settled us .answers) room ct top (a .1) (y .0) k (omega (arith, y .1, s .sixtyFour));
@@ -153,10 +156,11 @@ begun-continued σ live runs undo room runs′ undo′ room′ cells cells′ c 
           us = again u f (run f cells (u .undo)) ∷ [];
           ws = ws;
           sent = x;
+          names = [];
           work = a .0;
           sound = sd;
           small = small-of live runs′ undo′ room′ c′ [] (again u f (run f cells (u .undo)) ∷ []) ws x room ct top (a .0) sd k (omega (arith, s .sixtyFour));
-          rest = ap (λ (y : Cells). sending x (Steps.drain σ y (again u f (run f cells (u .undo)) ∷ []) ws)) (a .1);
+          rest = ap (λ (y : Cells). sending x [] (Steps.drain σ y (again u f (run f cells (u .undo)) ∷ []) ws)) (a .1);
         }
 
 -- A new transaction
@@ -198,6 +202,7 @@ begun-joined σ live live′ runs undo room cells c c′ n f ct top us ws w s k 
       us = us;
       ws = ws ++ (x ∷ []);
       sent = [];
+      names = [];
       work = wk;
       sound = sd;
       small = small-of live′ runs undo room c′ [] us (ws ++ (x ∷ [])) [] room ct n wk sd (omega (arith, wk .first, wk .uncommitted, wk .waiting, sd .sixtyFour)) (omega (arith, sd .sixtyFour));

@@ -141,9 +141,10 @@ pub record Mid (σ : Scheme) (live runs undo room : List ℕ) (cells : Cells) (c
   pub us : List Uncommitted
   pub ws : List Waiting
   pub more : List Answer
+  pub names : List ℕ
   pub work : Work live runs undo room c gone us ws more room₀
   pub sound : Sound ct top us ws
-  pub rest : sending more (Steps.drain σ cells us ws) ≡ sending sent whole
+  pub rest : sending more names (Steps.drain σ cells us ws) ≡ sending sent [] whole
 
 -- what the loop keeps: wherever it began with lists, it is in the midst of draining them
 abbrev pub Midst : Scheme → List ℕ → List ℕ → List ℕ → List ℕ → Cells → Counts → List ℕ → List ℕ → List ℕ → Cells → Counts → Type 0
@@ -152,24 +153,24 @@ Midst σ live runs undo room cells c runs′ undo′ room′ cells′ c′ =
     → (ct top : ℕ) → Sound ct top us ws → Mid σ live runs′ undo′ room′ cells′ c′ sent room₀ ct top (Steps.drain σ cells us ws)
 
 pub midst-start : (σ : Scheme) (live runs undo room : List ℕ) (cells : Cells) (c : Counts) → Midst σ live runs undo room cells c runs undo room cells c
-midst-start σ live runs undo room cells c gone us ws sent room₀ w ct top s = record { gone = gone; us = us; ws = ws; more = sent; work = w; sound = s; rest = refl }
+midst-start σ live runs undo room cells c gone us ws sent room₀ w ct top s = record { gone = gone; us = us; ws = ws; more = sent; names = []; work = w; sound = s; rest = refl }
 
 drain-takes : (σ : Scheme) (cs : Cells) (us : List Uncommitted) (w : Waiting) (ws : List Waiting) → mayTake σ us ≡ true
-    → Steps.drain σ cs us (w ∷ ws) ≡ sending (placed us w (run (w .fragment) cs []) .answers) (Steps.drain σ (run (w .fragment) cs [] .cells) (placed us w (run (w .fragment) cs []) .uncommitted) ws)
+    → Steps.drain σ cs us (w ∷ ws) ≡ sending (placed us w (run (w .fragment) cs []) .answers) (placed us w (run (w .fragment) cs []) .settles) (Steps.drain σ (run (w .fragment) cs [] .cells) (placed us w (run (w .fragment) cs []) .uncommitted) ws)
 drain-takes σ cs us w ws e = drain-cases (λ (q : Queues). q ≡ taken) σ cs us w ws (λ n. absurd (true≢false (sym e ∙ n))) (λ _. refl)
   where
     taken : Queues
-    taken = sending (placed us w (run (w .fragment) cs []) .answers) (Steps.drain σ (run (w .fragment) cs [] .cells) (placed us w (run (w .fragment) cs []) .uncommitted) ws)
+    taken = sending (placed us w (run (w .fragment) cs []) .answers) (placed us w (run (w .fragment) cs []) .settles) (Steps.drain σ (run (w .fragment) cs [] .cells) (placed us w (run (w .fragment) cs []) .uncommitted) ws)
 
-drain-stays : (σ : Scheme) (cs : Cells) (us : List Uncommitted) (ws : List Waiting) → (ws ≡ []) ⊎ (mayTake σ us ≡ false) → Steps.drain σ cs us ws ≡ record { cells = cs; uncommitted = us; waiting = ws; answers = [] }
+drain-stays : (σ : Scheme) (cs : Cells) (us : List Uncommitted) (ws : List Waiting) → (ws ≡ []) ⊎ (mayTake σ us ≡ false) → Steps.drain σ cs us ws ≡ record { cells = cs; uncommitted = us; waiting = ws; answers = []; settles = [] }
 unfolding Steps.drain
 drain-stays σ cs us [] h = refl
 drain-stays σ cs us (w ∷ ws) (inl e) = absurd (mathlib.Core.List.nil≢cons (sym e))
 drain-stays σ cs us (w ∷ ws) (inr e) =
-    drain-cases (λ (q : Queues). q ≡ record { cells = cs; uncommitted = us; waiting = w ∷ ws; answers = [] }) σ cs us w ws (λ _. refl) (λ t. absurd (true≢false (sym t ∙ e)))
+    drain-cases (λ (q : Queues). q ≡ record { cells = cs; uncommitted = us; waiting = w ∷ ws; answers = []; settles = [] }) σ cs us w ws (λ _. refl) (λ t. absurd (true≢false (sym t ∙ e)))
 
-sending-more : (a b : List Answer) (q : Queues) → sending (a ++ b) q ≡ sending a (sending b q)
-sending-more a b q = λ i. record { cells = q .cells; uncommitted = q .uncommitted; waiting = q .waiting; answers = append-assoc a b (q .answers) i }
+sending-more : (a b : List Answer) (m n : List ℕ) (q : Queues) → sending (a ++ b) (m ++ n) q ≡ sending a m (sending b n q)
+sending-more a b m n q = λ i. record { cells = q .cells; uncommitted = q .uncommitted; waiting = q .waiting; answers = append-assoc a b (q .answers) i; settles = append-assoc m n (q .settles) i }
 
 module _ (σ : Scheme) (live runs₀ undo₀ room₀ : List ℕ) (cells₀ : Cells) (c₀ : Counts) (runs undo room : List ℕ) (cells : Cells) (c : Counts) (mid : Midst σ live runs₀ undo₀ room₀ cells₀ c₀ runs undo room cells c) where
   pub midst-turn : 0 < c .waiting → mayTakeRow σ runs (c .uncommitted) ≡ true → (runs′ undo′ room′ : List ℕ) (cells′ : Cells) (c′ : Counts) → Took live runs undo room cells c runs′ undo′ room′ cells′ c′
@@ -190,18 +191,19 @@ module _ (σ : Scheme) (live runs₀ undo₀ room₀ : List ℕ) (cells₀ : Cel
             us = placed (m .us) x (run (x .fragment) cells []) .uncommitted;
             ws = l;
             more = m .more ++ placed (m .us) x (run (x .fragment) cells []) .answers;
+            names = m .names ++ placed (m .us) x (run (x .fragment) cells []) .settles;
             work = t .work;
             sound = placed-sound σ ct top (m .us) x l cells tk sd .0;
-            rest = ap (λ (y : Cells). sending (m .more ++ placed (m .us) x (run (x .fragment) cells []) .answers) (Steps.drain σ y (placed (m .us) x (run (x .fragment) cells []) .uncommitted) l)) (t .stands)
-                ∙ sending-more (m .more) (placed (m .us) x (run (x .fragment) cells []) .answers) (Steps.drain σ (run (x .fragment) cells [] .cells) (placed (m .us) x (run (x .fragment) cells []) .uncommitted) l)
-                ∙ ap (sending (m .more)) (sym (drain-takes σ cells (m .us) x l tk) ∙ ap (Steps.drain σ cells (m .us)) (sym e)) ∙ m .rest;
+            rest = ap (λ (y : Cells). sending (m .more ++ placed (m .us) x (run (x .fragment) cells []) .answers) (m .names ++ placed (m .us) x (run (x .fragment) cells []) .settles) (Steps.drain σ y (placed (m .us) x (run (x .fragment) cells []) .uncommitted) l)) (t .stands)
+                ∙ sending-more (m .more) (placed (m .us) x (run (x .fragment) cells []) .answers) (m .names) (placed (m .us) x (run (x .fragment) cells []) .settles) (Steps.drain σ (run (x .fragment) cells [] .cells) (placed (m .us) x (run (x .fragment) cells []) .uncommitted) l)
+                ∙ ap (sending (m .more) (m .names)) (sym (drain-takes σ cells (m .us) x l tk) ∙ ap (Steps.drain σ cells (m .us)) (sym e)) ∙ m .rest;
           }
 
   pub midst-end : (c .waiting ≡ 0) ⊎ (mayTakeRow σ runs (c .uncommitted) ≡ false) → Drained σ live runs₀ undo₀ room₀ cells₀ c₀ runs undo room cells c
   midst-end stop gone us ws sent r₀ w ct top s =
       let m = mid gone us ws sent r₀ w ct top s in
-      let stays : Steps.drain σ cells (m .us) (m .ws) ≡ record { cells = cells; uncommitted = m .us; waiting = m .ws; answers = [] } = drain-stays σ cells (m .us) (m .ws) (why m stop) in
-      let e : record { cells = cells; uncommitted = m .us; waiting = m .ws; answers = m .more ++ [] } ≡ sending sent (Steps.drain σ cells₀ us ws) = ap (sending (m .more)) (sym stays) ∙ m .rest in
+      let stays : Steps.drain σ cells (m .us) (m .ws) ≡ record { cells = cells; uncommitted = m .us; waiting = m .ws; answers = []; settles = [] } = drain-stays σ cells (m .us) (m .ws) (why m stop) in
+      let e : record { cells = cells; uncommitted = m .us; waiting = m .ws; answers = m .more ++ []; settles = m .names ++ [] } ≡ sending sent [] (Steps.drain σ cells₀ us ws) = ap (sending (m .more) (m .names)) (sym stays) ∙ m .rest in
       record {
         gone = m .gone;
         work = finish (m .gone) (m .us) (m .ws) (m .more) (sent ++ Steps.drain σ cells₀ us ws .answers) _ _ (ap (λ (q : Queues). q .uncommitted) e) (ap (λ (q : Queues). q .waiting) e) (sym (append-nil (m .more)) ∙ ap (λ (q : Queues). q .answers) e) (m .work);

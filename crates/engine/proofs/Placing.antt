@@ -41,16 +41,17 @@ pub placed-by : (us : List Uncommitted) (w : Waiting) (r : Steps.Ran) (ans joins
     → placed us w r ≡ record {
       uncommitted = pick joins (us ++ (begun w r (pick (not ans) (Held (r .outcome)) Sent) ∷ [])) us;
       answers = pick ans (answer (w .number) (nearest 0 us) (r .outcome) ∷ []) [];
+      settles = pick joins [] (w .number ∷ []);
     }
 unfolding placed
 placed-by [] w r ans joins ea ej = go (multi (w .fragment)) ans joins ea ej
   where
     go : (m a j : Bool) → a ≡ true → j ≡ m → _≡_ {A = Place} (elim m as (λ _. Place) [
-      | false ↦ record { uncommitted = []; answers = answer (w .number) 0 (r .outcome) ∷ [] }
-      | true ↦ record { uncommitted = begun w r Sent ∷ []; answers = answer (w .number) 0 (r .outcome) ∷ [] }
-    ]) (record { uncommitted = pick j (begun w r (pick (not a) (Held (r .outcome)) Sent) ∷ []) []; answers = pick a (answer (w .number) 0 (r .outcome) ∷ []) [] })
-    go true a j ea ej = λ i. record { uncommitted = pick (sym ej i) (begun w r (pick (not (sym ea i)) (Held (r .outcome)) Sent) ∷ []) []; answers = pick (sym ea i) (answer (w .number) 0 (r .outcome) ∷ []) [] }
-    go false a j ea ej = λ i. record { uncommitted = pick (sym ej i) (begun w r (pick (not (sym ea i)) (Held (r .outcome)) Sent) ∷ []) []; answers = pick (sym ea i) (answer (w .number) 0 (r .outcome) ∷ []) [] }
+      | false ↦ record { uncommitted = []; answers = answer (w .number) 0 (r .outcome) ∷ []; settles = w .number ∷ [] }
+      | true ↦ record { uncommitted = begun w r Sent ∷ []; answers = answer (w .number) 0 (r .outcome) ∷ []; settles = [] }
+    ]) (record { uncommitted = pick j (begun w r (pick (not a) (Held (r .outcome)) Sent) ∷ []) []; answers = pick a (answer (w .number) 0 (r .outcome) ∷ []) []; settles = pick j [] (w .number ∷ []) })
+    go true a j ea ej = λ i. record { uncommitted = pick (sym ej i) (begun w r (pick (not (sym ea i)) (Held (r .outcome)) Sent) ∷ []) []; answers = pick (sym ea i) (answer (w .number) 0 (r .outcome) ∷ []) []; settles = pick (sym ej i) [] (w .number ∷ []) }
+    go false a j ea ej = λ i. record { uncommitted = pick (sym ej i) (begun w r (pick (not (sym ea i)) (Held (r .outcome)) Sent) ∷ []) []; answers = pick (sym ea i) (answer (w .number) 0 (r .outcome) ∷ []) []; settles = pick (sym ej i) [] (w .number ∷ []) }
 placed-by (u ∷ us) w r ans joins ea ej =
     go (multi (w .fragment) && oneCoordinator (w .fragment .coordinator) (u ∷ us)) ans joins
     (ea ∙ ap (λ (b : Bool). b || (multi (w .fragment) && oneCoordinator (w .fragment .coordinator) (u ∷ us))) some)
@@ -60,11 +61,11 @@ placed-by (u ∷ us) w r ans joins ea ej =
     some = ne-eqb (suc (length us)) 0 (λ e. omega arith)
 
     go : (m a j : Bool) → a ≡ m → j ≡ true → _≡_ {A = Place} (elim m as (λ _. Place) [
-      | false ↦ record { uncommitted = u ∷ us ++ (begun w r (Held (r .outcome)) ∷ []); answers = [] }
-      | true ↦ record { uncommitted = u ∷ us ++ (begun w r Sent ∷ []); answers = answer (w .number) (nearest 0 (u ∷ us)) (r .outcome) ∷ [] }
-    ]) (record { uncommitted = pick j (u ∷ us ++ (begun w r (pick (not a) (Held (r .outcome)) Sent) ∷ [])) (u ∷ us); answers = pick a (answer (w .number) (nearest 0 (u ∷ us)) (r .outcome) ∷ []) [] })
-    go true a j ea ej = λ i. record { uncommitted = pick (sym ej i) (u ∷ us ++ (begun w r (pick (not (sym ea i)) (Held (r .outcome)) Sent) ∷ [])) (u ∷ us); answers = pick (sym ea i) (answer (w .number) (nearest 0 (u ∷ us)) (r .outcome) ∷ []) [] }
-    go false a j ea ej = λ i. record { uncommitted = pick (sym ej i) (u ∷ us ++ (begun w r (pick (not (sym ea i)) (Held (r .outcome)) Sent) ∷ [])) (u ∷ us); answers = pick (sym ea i) (answer (w .number) (nearest 0 (u ∷ us)) (r .outcome) ∷ []) [] }
+      | false ↦ record { uncommitted = u ∷ us ++ (begun w r (Held (r .outcome)) ∷ []); answers = []; settles = [] }
+      | true ↦ record { uncommitted = u ∷ us ++ (begun w r Sent ∷ []); answers = answer (w .number) (nearest 0 (u ∷ us)) (r .outcome) ∷ []; settles = [] }
+    ]) (record { uncommitted = pick j (u ∷ us ++ (begun w r (pick (not a) (Held (r .outcome)) Sent) ∷ [])) (u ∷ us); answers = pick a (answer (w .number) (nearest 0 (u ∷ us)) (r .outcome) ∷ []) []; settles = pick j [] (w .number ∷ []) })
+    go true a j ea ej = λ i. record { uncommitted = pick (sym ej i) (u ∷ us ++ (begun w r (pick (not (sym ea i)) (Held (r .outcome)) Sent) ∷ [])) (u ∷ us); answers = pick (sym ea i) (answer (w .number) (nearest 0 (u ∷ us)) (r .outcome) ∷ []) []; settles = pick (sym ej i) [] (w .number ∷ []) }
+    go false a j ea ej = λ i. record { uncommitted = pick (sym ej i) (u ∷ us ++ (begun w r (pick (not (sym ea i)) (Held (r .outcome)) Sent) ∷ [])) (u ∷ us); answers = pick (sym ea i) (answer (w .number) (nearest 0 (u ∷ us)) (r .outcome) ∷ []) []; settles = pick (sym ej i) [] (w .number ∷ []) }
 
 -- The rows of the uncommitted ones
 
@@ -303,12 +304,13 @@ module _ (live runs undo room : List ℕ) (cells : Cells) (c : Counts) (number :
       }
 
   pub take-first-left : Left live runs′ undo′ room′ c′ cells′ sent room₀
-      (record { cells = run (w .fragment) cells [] .cells; uncommitted = placed us w (run (w .fragment) cells []) .uncommitted; waiting = ws; answers = placed us w (run (w .fragment) cells []) .answers })
+      (record { cells = run (w .fragment) cells [] .cells; uncommitted = placed us w (run (w .fragment) cells []) .uncommitted; waiting = ws; answers = placed us w (run (w .fragment) cells []) .answers; settles = placed us w (run (w .fragment) cells []) .settles })
   take-first-left = go joins refl
     where
       p : placed us w (run (w .fragment) cells []) ≡ record {
         uncommitted = pick joins (us ++ (begun w (run (w .fragment) cells []) (pick (not ans) (Held (run (w .fragment) cells [] .outcome)) Sent) ∷ [])) us;
         answers = pick ans (answer (w .number) (nearest 0 us) (run (w .fragment) cells [] .outcome) ∷ []) [];
+        settles = pick joins [] (w .number ∷ []);
       }
       p = placed-by us w (run (w .fragment) cells []) ans joins is-ans is-joins
 
@@ -322,7 +324,7 @@ module _ (live runs undo room : List ℕ) (cells : Cells) (c : Counts) (number :
       work-at : (us′ : List Uncommitted) (as′ : List Answer) (gone′ : List Waiting) → placed us w (run (w .fragment) cells []) .uncommitted ≡ us′ → placed us w (run (w .fragment) cells []) .answers ≡ as′
           → Work live runs′ undo′ room′ c′ gone′ us′ ws (sent ++ as′) room₀
           → Left live runs′ undo′ room′ c′ cells′ sent room₀
-          (record { cells = run (w .fragment) cells [] .cells; uncommitted = placed us w (run (w .fragment) cells []) .uncommitted; waiting = ws; answers = placed us w (run (w .fragment) cells []) .answers })
+          (record { cells = run (w .fragment) cells [] .cells; uncommitted = placed us w (run (w .fragment) cells []) .uncommitted; waiting = ws; answers = placed us w (run (w .fragment) cells []) .answers; settles = placed us w (run (w .fragment) cells []) .settles })
       work-at us′ as′ gone′ eu ea k = record {
         gone = gone′;
         work = subst₂ (λ (x : List Uncommitted) (y : List Answer). Work live runs′ undo′ room′ c′ gone′ x ws (sent ++ y) room₀) (sym eu) (sym ea) k;
@@ -330,6 +332,6 @@ module _ (live runs undo room : List ℕ) (cells : Cells) (c : Counts) (number :
       }
 
       go : (b : Bool) → joins ≡ b → Left live runs′ undo′ room′ c′ cells′ sent room₀
-          (record { cells = run (w .fragment) cells [] .cells; uncommitted = placed us w (run (w .fragment) cells []) .uncommitted; waiting = ws; answers = placed us w (run (w .fragment) cells []) .answers })
+          (record { cells = run (w .fragment) cells [] .cells; uncommitted = placed us w (run (w .fragment) cells []) .uncommitted; waiting = ws; answers = placed us w (run (w .fragment) cells []) .answers; settles = placed us w (run (w .fragment) cells []) .settles })
       go true j = work-at _ _ gone (ap (λ (x : Place). x .uncommitted) p ∙ ap (λ (b : Bool). pick b (us ++ (v ∷ [])) us) j) (ap (λ (x : Place). x .answers) p) (joins-work j)
       go false j = work-at _ _ (gone ++ (w ∷ [])) (ap (λ (x : Place). x .uncommitted) p ∙ ap (λ (b : Bool). pick b (us ++ (v ∷ [])) us) j) (ap (λ (x : Place). x .answers) p) (settles-work (none us (sym is-joins ∙ j)) j)

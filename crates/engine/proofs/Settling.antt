@@ -144,20 +144,20 @@ module _ (u : Uncommitted) (us : List Uncommitted) (runs : List ℕ) (k : All Kn
       front-runs (sent u) (sentRow runs 0) runs′ (omega arith)
       ((λ i. runRow (first-word 0 (omega arith) i) (first-word 1 (omega arith) i) 0 (first-word 3 (omega arith) i) 0 0 (replicate 8 0)) ∙ sent-words u) h
 
-settled-multi : (u : Uncommitted) (us : List Uncommitted) → multi (u .first) ≡ true → settled (u ∷ us) ≡ record { uncommitted = sent u ∷ us; answers = heldBy u }
+settled-multi : (u : Uncommitted) (us : List Uncommitted) → multi (u .first) ≡ true → settled (u ∷ us) ≡ record { uncommitted = sent u ∷ us; answers = heldBy u; settles = [] }
 unfolding settled
 settled-multi u us e =
     ap {B = Place} (λ (b : Bool). elim b [
-      | true ↦ record { uncommitted = sent u ∷ us; answers = heldBy u }
-      | false ↦ record { uncommitted = settled us .uncommitted; answers = heldBy u ++ settled us .answers }
+      | true ↦ record { uncommitted = sent u ∷ us; answers = heldBy u; settles = [] }
+      | false ↦ record { uncommitted = settled us .uncommitted; answers = heldBy u ++ settled us .answers; settles = u .number ∷ settled us .settles }
     ]) e
 
-settled-single : (u : Uncommitted) (us : List Uncommitted) → multi (u .first) ≡ false → settled (u ∷ us) ≡ record { uncommitted = settled us .uncommitted; answers = heldBy u ++ settled us .answers }
+settled-single : (u : Uncommitted) (us : List Uncommitted) → multi (u .first) ≡ false → settled (u ∷ us) ≡ record { uncommitted = settled us .uncommitted; answers = heldBy u ++ settled us .answers; settles = u .number ∷ settled us .settles }
 unfolding settled
 settled-single u us e =
     ap {B = Place} (λ (b : Bool). elim b [
-      | true ↦ record { uncommitted = sent u ∷ us; answers = heldBy u }
-      | false ↦ record { uncommitted = settled us .uncommitted; answers = heldBy u ++ settled us .answers }
+      | true ↦ record { uncommitted = sent u ∷ us; answers = heldBy u; settles = [] }
+      | false ↦ record { uncommitted = settled us .uncommitted; answers = heldBy u ++ settled us .answers; settles = u .number ∷ settled us .settles }
     ]) e
 
 -- One settles
@@ -245,7 +245,7 @@ Midway live runs undo room c runs′ undo′ room′ c′ =
 
 pub midway-start : (live runs undo room : List ℕ) (c : Counts) → Midway live runs undo room c runs undo room c
 midway-start live runs undo room c gone us ws sent room₀ w k =
-    record { gone = gone; left = us; more = []; work = subst (λ (x : List Answer). Work live runs undo room c gone us ws x room₀) (sym (append-nil sent)) w; known = k; rest = refl }
+    record { gone = gone; left = us; more = []; names = []; work = subst (λ (x : List Answer). Work live runs undo room c gone us ws x room₀) (sym (append-nil sent)) w; known = k; rest = refl }
 
 module _ (live runs₀ undo₀ room₀ runs undo room : List ℕ) (c₀ c : Counts) (mid : Midway live runs₀ undo₀ room₀ c₀ runs undo room c) where
   pub midway-turn : 0 < c .uncommitted → multiRow live (liveWidth * c .first) ≡ false → (runs′ undo′ room′ : List ℕ) (c′ : Counts) → SettledOne live runs undo room c runs′ undo′ room′ c′ → Midway live runs₀ undo₀ room₀ c₀ runs′ undo′ room′ c′
@@ -261,11 +261,12 @@ module _ (live runs₀ undo₀ room₀ runs undo room : List ℕ) (c₀ c : Coun
             gone = m .gone ++ (requeued u ∷ []);
             left = l;
             more = m .more ++ heldBy u;
+            names = m .names ++ (u .number ∷ []);
             work = subst (λ (x : List Answer). Work live runs′ undo′ room′ c′ (m .gone ++ (requeued u ∷ [])) l ws x r₀) (append-assoc sent (m .more) (heldBy u)) (one (m .gone) u l ws (sent ++ m .more) r₀ wk kn);
             known = kn .1;
-            rest = m .rest ∙ ap (λ (x : List Uncommitted). record { uncommitted = settled x .uncommitted; answers = m .more ++ settled x .answers }) e
-                ∙ ap {B = Place} (λ (p : Place). record { uncommitted = p .uncommitted; answers = m .more ++ p .answers }) (settled-single u l sg)
-                ∙ (λ i. record { uncommitted = settled l .uncommitted; answers = sym (append-assoc (m .more) (heldBy u) (settled l .answers)) i });
+            rest = m .rest ∙ ap (λ (x : List Uncommitted). record { uncommitted = settled x .uncommitted; answers = m .more ++ settled x .answers; settles = m .names ++ settled x .settles }) e
+                ∙ ap {B = Place} (λ (p : Place). record { uncommitted = p .uncommitted; answers = m .more ++ p .answers; settles = m .names ++ p .settles }) (settled-single u l sg)
+                ∙ (λ i. record { uncommitted = settled l .uncommitted; answers = sym (append-assoc (m .more) (heldBy u) (settled l .answers)) i; settles = sym (append-assoc (m .names) (u .number ∷ []) (settled l .settles)) i });
           }
 
   pub midway-end : (c .uncommitted ≡ 0) ⊎ (multiRow live (liveWidth * c .first) ≡ true) → Singles live runs₀ undo₀ room₀ c₀ runs undo room c

@@ -84,7 +84,7 @@ Took live runs undo room cells c runs′ undo′ room′ cells′ c′ =
     (gone : List Waiting) (us : List Uncommitted) (w : Waiting) (ws : List Waiting) (sent : List Answer) (room₀ : List ℕ) → Work live runs undo room c gone us (w ∷ ws) sent room₀
     → (ct top : ℕ) → Sound ct top us (w ∷ ws) → (σ : Scheme) → mayTake σ us ≡ true
     → Left live runs′ undo′ room′ c′ cells′ sent room₀
-    (record { cells = run (w .fragment) cells [] .cells; uncommitted = placed us w (run (w .fragment) cells []) .uncommitted; waiting = ws; answers = placed us w (run (w .fragment) cells []) .answers })
+    (record { cells = run (w .fragment) cells [] .cells; uncommitted = placed us w (run (w .fragment) cells []) .uncommitted; waiting = ws; answers = placed us w (run (w .fragment) cells []) .answers; settles = placed us w (run (w .fragment) cells []) .settles })
 
 -- a whole drain
 abbrev pub Drained : Scheme → List ℕ → List ℕ → List ℕ → List ℕ → Cells → Counts → List ℕ → List ℕ → List ℕ → Cells → Counts → Type 0
@@ -116,9 +116,10 @@ pub record SettledTo (live runs undo room : List ℕ) (c : Counts) (us : List Un
   pub gone : List Waiting
   pub left : List Uncommitted
   pub more : List Answer
+  pub names : List ℕ
   pub work : Work live runs undo room c gone left ws (sent ++ more) room₀
   pub known : All Known left
-  pub rest : settled us ≡ record { uncommitted = settled left .uncommitted; answers = more ++ settled left .answers }
+  pub rest : settled us ≡ record { uncommitted = settled left .uncommitted; answers = more ++ settled left .answers; settles = names ++ settled left .settles }
 
 abbrev pub Singles : List ℕ → List ℕ → List ℕ → List ℕ → Counts → List ℕ → List ℕ → List ℕ → Counts → Type 0
 Singles live runs undo room c runs′ undo′ room′ c′ =

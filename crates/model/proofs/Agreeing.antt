@@ -196,8 +196,8 @@ module _ (cs : Cells) (r r′ : Run) (p : Paired cs r r′) where
     -- the answers of singles: what is settled before and after is the same
     singles-same : Lends r c → Lends r′ c′ → ofSingles (onward r c .log) (step (r .engine) c .answers) ≡ ofSingles (onward r′ c′ .log) (step (r′ .engine) c′ .answers)
     singles-same d d′ = cancel (replies (settledOf (r .log)) cs) _ _
-        (sym (whole-onward cs r c [] (p .whole) d (λ _ _ _. refl) .singles) ∙ ap (λ (l : Log). replies (settledOf l) cs) log-same
-        ∙ whole-onward cs r′ c′ [] (p .whole′) d′ (λ _ _ _. refl) .singles ∙ ap (λ (l : Log). replies (settledOf l) cs ++ ofSingles (onward r′ c′ .log) (step (r′ .engine) c′ .answers)) (sym (p .log)))
+        (sym (whole-onward cs r c [] (p .whole) d (λ _ _ _. refl) .went .singles) ∙ ap (λ (l : Log). replies (settledOf l) cs) log-same
+        ∙ whole-onward cs r′ c′ [] (p .whole′) d′ (λ _ _ _. refl) .went .singles ∙ ap (λ (l : Log). replies (settledOf l) cs ++ ofSingles (onward r′ c′ .log) (step (r′ .engine) c′ .answers)) (sym (p .log)))
       where
         cancel : (a x y : List Answer) → a ++ x ≡ a ++ y → x ≡ y
         cancel [] x y h = h
@@ -222,5 +222,5 @@ schemes-agree cs = record {
   recorded = λ calls calls′ t. settled-in cs calls (t .lend) ∙ ap settledOf (paired cs calls calls′ t .log) ∙ sym (settled-in cs calls′ (t .lend′));
   cells = λ calls calls′ t h. idle-cells cs (runs (fresh cs) calls) (runs (fresh cs) calls′) (paired cs calls calls′ t) h;
   singles = λ calls calls′ t c c′ a d d′. singles-same cs (runs (fresh cs) calls) (runs (fresh cs) calls′) (paired cs calls calls′ t) c c′ a d d′;
-  answered = λ calls d c k. reaches cs calls d c k .singles;
+  answered = λ calls d c k. reaches cs calls d c k .went .singles;
 }

@@ -14,56 +14,56 @@ use Rattle.model.specs.declared.Scheme.{Scheme}
 use Rattle.model.proofs.Tests.{and-left}
 
 module _ (P : Place → Type 0) where
-  pub placed-idle : (w : Waiting) (r : Ran) → (multi (w .fragment) ≡ false → P (record { uncommitted = []; answers = answer (w .number) 0 (r .outcome) ∷ [] }))
-      → (multi (w .fragment) ≡ true → P (record { uncommitted = begun w r Sent ∷ []; answers = answer (w .number) 0 (r .outcome) ∷ [] })) → P (placed [] w r)
+  pub placed-idle : (w : Waiting) (r : Ran) → (multi (w .fragment) ≡ false → P (record { uncommitted = []; answers = answer (w .number) 0 (r .outcome) ∷ []; settles = w .number ∷ [] }))
+      → (multi (w .fragment) ≡ true → P (record { uncommitted = begun w r Sent ∷ []; answers = answer (w .number) 0 (r .outcome) ∷ []; settles = [] })) → P (placed [] w r)
   unfolding placed
   placed-idle w r single several = go (multi (w .fragment)) refl
     where
       go : (b : Bool) → multi (w .fragment) ≡ b
           → P (elim b [
-            | false ↦ record { uncommitted = []; answers = answer (w .number) 0 (r .outcome) ∷ [] }
-            | true ↦ record { uncommitted = begun w r Sent ∷ []; answers = answer (w .number) 0 (r .outcome) ∷ [] }
+            | false ↦ record { uncommitted = []; answers = answer (w .number) 0 (r .outcome) ∷ []; settles = w .number ∷ [] }
+            | true ↦ record { uncommitted = begun w r Sent ∷ []; answers = answer (w .number) 0 (r .outcome) ∷ []; settles = [] }
           ])
       go false e = single e
       go true e = several e
 
-  pub placed-behind : (u : Uncommitted) (us : List Uncommitted) (w : Waiting) (r : Ran) → P (record { uncommitted = u ∷ us ++ (begun w r (Held (r .outcome)) ∷ []); answers = [] })
-      → (multi (w .fragment) ≡ true → P (record { uncommitted = u ∷ us ++ (begun w r Sent ∷ []); answers = answer (w .number) (nearest 0 (u ∷ us)) (r .outcome) ∷ [] })) → P (placed (u ∷ us) w r)
+  pub placed-behind : (u : Uncommitted) (us : List Uncommitted) (w : Waiting) (r : Ran) → P (record { uncommitted = u ∷ us ++ (begun w r (Held (r .outcome)) ∷ []); answers = []; settles = [] })
+      → (multi (w .fragment) ≡ true → P (record { uncommitted = u ∷ us ++ (begun w r Sent ∷ []); answers = answer (w .number) (nearest 0 (u ∷ us)) (r .outcome) ∷ []; settles = [] })) → P (placed (u ∷ us) w r)
   unfolding placed
   placed-behind u us w r held now-sent = go (multi (w .fragment) && oneCoordinator (w .fragment .coordinator) (u ∷ us)) refl
     where
       go : (b : Bool) → (multi (w .fragment) && oneCoordinator (w .fragment .coordinator) (u ∷ us)) ≡ b
           → P (elim b [
-            | false ↦ record { uncommitted = u ∷ us ++ (begun w r (Held (r .outcome)) ∷ []); answers = [] }
-            | true ↦ record { uncommitted = u ∷ us ++ (begun w r Sent ∷ []); answers = answer (w .number) (nearest 0 (u ∷ us)) (r .outcome) ∷ [] }
+            | false ↦ record { uncommitted = u ∷ us ++ (begun w r (Held (r .outcome)) ∷ []); answers = []; settles = [] }
+            | true ↦ record { uncommitted = u ∷ us ++ (begun w r Sent ∷ []); answers = answer (w .number) (nearest 0 (u ∷ us)) (r .outcome) ∷ []; settles = [] }
           ])
       go false e = held
       go true e = now-sent (and-left (multi (w .fragment)) (oneCoordinator (w .fragment .coordinator) (u ∷ us)) e)
 
-  pub settled-cases : (u : Uncommitted) (us : List Uncommitted) → (multi (u .first) ≡ true → P (record { uncommitted = sent u ∷ us; answers = heldBy u }))
-      → (multi (u .first) ≡ false → P (record { uncommitted = settled us .uncommitted; answers = heldBy u ++ settled us .answers })) → P (settled (u ∷ us))
+  pub settled-cases : (u : Uncommitted) (us : List Uncommitted) → (multi (u .first) ≡ true → P (record { uncommitted = sent u ∷ us; answers = heldBy u; settles = [] }))
+      → (multi (u .first) ≡ false → P (record { uncommitted = settled us .uncommitted; answers = heldBy u ++ settled us .answers; settles = u .number ∷ settled us .settles })) → P (settled (u ∷ us))
   unfolding settled
   settled-cases u us front single = go (multi (u .first)) refl
     where
       go : (b : Bool) → multi (u .first) ≡ b
           → P (elim b [
-            | true ↦ record { uncommitted = sent u ∷ us; answers = heldBy u }
-            | false ↦ record { uncommitted = settled us .uncommitted; answers = heldBy u ++ settled us .answers }
+            | true ↦ record { uncommitted = sent u ∷ us; answers = heldBy u; settles = [] }
+            | false ↦ record { uncommitted = settled us .uncommitted; answers = heldBy u ++ settled us .answers; settles = u .number ∷ settled us .settles }
           ])
       go true e = front e
       go false e = single e
 
 pub drain-cases : (P : Queues → Type 0) (σ : Scheme) (cs : Cells) (us : List Uncommitted) (w : Waiting) (ws : List Waiting)
-    → (mayTake σ us ≡ false → P (record { cells = cs; uncommitted = us; waiting = w ∷ ws; answers = [] }))
-    → (mayTake σ us ≡ true → P (sending (placed us w (run (w .fragment) cs []) .answers) (drain σ (run (w .fragment) cs [] .cells) (placed us w (run (w .fragment) cs []) .uncommitted) ws)))
+    → (mayTake σ us ≡ false → P (record { cells = cs; uncommitted = us; waiting = w ∷ ws; answers = []; settles = [] }))
+    → (mayTake σ us ≡ true → P (sending (placed us w (run (w .fragment) cs []) .answers) (placed us w (run (w .fragment) cs []) .settles) (drain σ (run (w .fragment) cs [] .cells) (placed us w (run (w .fragment) cs []) .uncommitted) ws)))
     → P (drain σ cs us (w ∷ ws))
 unfolding drain
 drain-cases P σ cs us w ws stays takes = go (mayTake σ us) refl
   where
     go : (b : Bool) → mayTake σ us ≡ b
         → P (elim b [
-          | false ↦ record { cells = cs; uncommitted = us; waiting = w ∷ ws; answers = [] }
-          | true ↦ sending (placed us w (run (w .fragment) cs []) .answers) (drain σ (run (w .fragment) cs [] .cells) (placed us w (run (w .fragment) cs []) .uncommitted) ws)
+          | false ↦ record { cells = cs; uncommitted = us; waiting = w ∷ ws; answers = []; settles = [] }
+          | true ↦ sending (placed us w (run (w .fragment) cs []) .answers) (placed us w (run (w .fragment) cs []) .settles) (drain σ (run (w .fragment) cs [] .cells) (placed us w (run (w .fragment) cs []) .uncommitted) ws)
         ])
     go false e = stays e
     go true e = takes e

@@ -13,18 +13,17 @@ use Rattle.model.specs.Operations.{Cells, Outcome, multi, told, pick}
 use Rattle.model.specs.Limits.{mostCells}
 use Rattle.model.specs.Transactions.{front, Uncommitted, Waiting, Answer, answer, Engine, numbers, finished}
 use Rattle.model.specs.Steps.{Queues, joined, continued, arrived}
-use Rattle.model.specs.Refusals.{Request, Arrive, Commit, Abort, request, Call, live, new, isFront, refusal, taken, largestAfter, respond, step, Started, start, empty}
+use Rattle.model.specs.Refusals.{Request, Arrive, Commit, Abort, request, Call, live, new, isFront, refusal, taken, largestAfter, respond, step, settlesBy, settlesIn, Started, start, empty}
 use Rattle.model.specs.Serial.{Tx, Decision, Open, Committed, Aborted, attempt, effect, serial}
 use Rattle.model.specs.Demand.{SettlingOrder, QueueOrder, numbersOf, Log, isLogged, at, extended, decided, logged, noticed, kept, Run, onward, runs, fresh, Lends, AllLend, Standing, Settles, Gone, Undecided, standing, settledOf, liveOf, uncommittedTx, CellsHold, Gives, PlainRight, NoAbort, DependentRight, Demand3}
 use Rattle.model.specs.declared.Event.{Event}
 use Rattle.model.specs.declared.Fragment.{Fragment}
 use Rattle.model.specs.declared.Scheme.{Scheme}
-use Rattle.model.proofs.Logs.{InOrder, serial-append, rises-weaken, rises-settled, rises-at, gives-at, settled-append, live-append, known-new, known-at, Grows, grows-same}
+use Rattle.model.proofs.Logs.{InOrder, serial-append, rises-weaken, rises-settled, rises-at, gives-at, settled-append, live-append, known-new, known-at}
 use Rattle.model.proofs.Chain.{nearestTx, pend-multi-leaves, asTx, txOf, lives, Pend, InPast, Followed, all-mem, Inv, chain-cells, lives-length, settled-is}
 use Rattle.model.proofs.Draining.{Plain, nearest-low}
 use Rattle.model.proofs.Settling.{log-front, rises-log-front, Got, commit-inv, abort-inv, again-inv, new-inv, top-front, rises-front}
-use Rattle.model.specs.Schemes.{SinglesAnswered}
-use Rattle.model.proofs.Replying.{Singled, singled-none}
+use Rattle.model.proofs.Replying.{Went, went-none}
 use Rattle.model.proofs.Branches.{request-cases}
 use Rattle.model.proofs.Passing.{passed, took, front-or-new, and-if, decides-front}
 use Rattle.model.specs.Parts.{All, Passed}
@@ -140,15 +139,15 @@ accept σ cs₀ e cs l as′ c i idle h p z =
 pub record Next (cs₀ : Cells) (r : Run) (c : Call) (as′ : List Answer) : Type 0 where
   pub whole : Whole cs₀ (onward r c) (as′ ++ step (r .engine) c .answers)
   pub plain : All (Plain cs₀ (onward r c .log)) (step (r .engine) c .answers)
-  pub grows : Grows (r .log) (onward r c .log)
-  pub singles : SinglesAnswered cs₀ r c
+  -- who settles, as the steps name them; and what singles are answered
+  pub went : Went cs₀ (onward r c .log) (r .log) (onward r c .log) (step (r .engine) c .answers) (settlesIn (r .engine) c)
 
 pub whole-onward : (cs₀ : Cells) (r : Run) (c : Call) (as′ : List Answer) → Whole cs₀ r as′ → Lends r c → (step (r .engine) c .number ≡ 0 → (n : ℕ) → request (c .event) ≡ Abort n → as′ ≡ [])
     → Next cs₀ r c as′
 unfolding step
 whole-onward cs₀ r c as′ w d z =
     let x = go (refusal (r .engine) c) refl d z in
-    record { whole = x .0; plain = x .1; grows = x .2; singles = x .3 }
+    record { whole = x .0; plain = x .1; went = x .2 }
   where
     there : ℕ → Run
     there k = record {
@@ -159,13 +158,13 @@ whole-onward cs₀ r c as′ w d z =
 
     go : (k : ℕ) → refusal (r .engine) c ≡ k → (respond k (r .engine) c .number ≡ 0 → c .lent ≡ r .cells)
         → (respond k (r .engine) c .number ≡ 0 → (n : ℕ) → request (c .event) ≡ Abort n → as′ ≡ [])
-        → Whole cs₀ (there k) (as′ ++ respond k (r .engine) c .answers) × All (Plain cs₀ (there k .log)) (respond k (r .engine) c .answers) × Grows (r .log) (there k .log)
-        × Singled cs₀ (there k .log) (r .log) (there k .log) (respond k (r .engine) c .answers)
+        → Whole cs₀ (there k) (as′ ++ respond k (r .engine) c .answers) × All (Plain cs₀ (there k .log)) (respond k (r .engine) c .answers)
+        × Went cs₀ (there k .log) (r .log) (there k .log) (respond k (r .engine) c .answers) (settlesBy (respond k (r .engine) c .number) (r .engine) c)
     go zero e d′ z′ =
         let g = accept (c .scheme) cs₀ (r .engine) (c .lent) (r .log) as′ c
         (subst (λ (x : Cells). Inv cs₀ (r .log) x (r .engine .uncommitted) (r .engine .waiting) as′) (sym (d′ refl)) (w .inv)) (w .idle) (w .rises) (passed (r .engine) c e) (z′ refl) in
-        (record { inv = g .after .inv; rises = g .rises; idle = g .after .idle }, g .after .plain, g .grows, g .singles)
-    go (suc k) e d′ z′ = (rw append-nil w, tt, grows-same (r .log), singled-none cs₀ (r .log) (r .log) (r .log) refl)
+        (record { inv = g .after .inv; rises = g .rises; idle = g .after .idle }, g .after .plain, g .went)
+    go (suc k) e d′ z′ = (rw append-nil w, tt, went-none cs₀ (r .log) (r .log) (r .log) refl)
 
 -- The theorem
 
@@ -354,8 +353,9 @@ demand3 cs = record {
   settling = λ calls d c k. record {
     accepted = reached cs calls d .rises;
     rises = rises-settled 0 (runs (fresh cs) calls .engine .largest) (runs (fresh cs) calls .log) (reached cs calls d .rises);
-    more = reaches cs calls d c k .grows .0;
-    grows = reaches cs calls d c k .grows .1;
+    more = reaches cs calls d c k .went .more;
+    grows = reaches cs calls d c k .went .grows;
+    named = reaches cs calls d c k .went .named;
   };
   plain = λ calls d c k a m e.
       all-mem (Plain cs (onward (runs (fresh cs) calls) c .log)) (step (runs (fresh cs) calls .engine) c .answers) (reaches cs calls d c k .plain) a m e;

@@ -19,7 +19,7 @@ use Rattle.model.proofs.Undoing.{Agree}
 use Rattle.model.proofs.Taking.{may-finished}
 use Rattle.model.proofs.Tests.{or-true}
 use Rattle.model.proofs.Branches.{placed-idle, placed-behind, drain-cases}
-use Rattle.model.proofs.Replying.{Singled, singled-none, singled-both, singled-multi, singled-settles}
+use Rattle.model.proofs.Replying.{Went, went-none, went-both, went-multi, went-settles}
 use Rattle.model.proofs.Logs.{InOrder, rises-weaken, rises-at, gives-at, Past, Closed, closed-snoc, past-settles}
 use Rattle.model.proofs.Chain.{nearestTx, nearest-lives, asTx, txOf, lives, Entry, Chain, ButLast, FrontMulti, Pend, InPast, Followed, all-map, all-append, Inv, chain-cells, chain-snoc, lives-snoc, ready-snoc, ready-tail, begun-agrees, begun-stands, begun-entry, settled-is, sent-is-not-held, held-inj, followed-idle, followed-snoc, in-past, none-pends}
 use Rattle.model.specs.Parts.{All}
@@ -31,9 +31,9 @@ past-if s e = subst Past (sym e) tt
 abbrev pub Plain : Cells → Log → Answer → Type 0
 Plain cs₀ l a = a .dependence ≡ 0 → Gives cs₀ (a .number) l (a .outcome)
 
--- the invariant goes on after these answers, and of the singles among them each has settled
-abbrev pub Onto : Cells → Log → Log → Cells → List Uncommitted → List Waiting → List Answer → List Answer → Type 0
-Onto cs₀ l P cs us ws as′ new = (j : Inv cs₀ l cs us ws (as′ ++ new)) × Singled cs₀ l P (j .past) new
+-- the invariant goes on after these answers, and of the singles among them each has settled; ns have settled
+abbrev pub Onto : Cells → Log → Log → Cells → List Uncommitted → List Waiting → List Answer → List Answer → List ℕ → Type 0
+Onto cs₀ l P cs us ws as′ new ns = (j : Inv cs₀ l cs us ws (as′ ++ new)) × Went cs₀ l P (j .past) new ns
 
 -- numbers of the log from a given place on
 pub rises-drop : (n top : ℕ) (P Q : Log) → InOrder n top (P ++ Q) → InOrder n top Q
@@ -70,7 +70,7 @@ module _ (cs₀ : Cells) (top : ℕ) (l : Log) (rises : InOrder 0 top l) where
     plain-first : Plain cs₀ l (answer (w .number) 0 (run (w .fragment) cs [] .outcome))
     plain-first h = gives-at cs₀ top l (i .past) (asTx w) (map asTx ws) (run (w .fragment) cs [] .outcome) rises (i .split) (tells-at w cs (serial (settledOf (i .past)) cs₀) (i .based ∙ i .chain))
 
-    settles-at-once : multi (w .fragment) ≡ false → Onto cs₀ l (i .past) (run (w .fragment) cs [] .cells) [] ws as′ (answer (w .number) 0 (run (w .fragment) cs [] .outcome) ∷ [])
+    settles-at-once : multi (w .fragment) ≡ false → Onto cs₀ l (i .past) (run (w .fragment) cs [] .cells) [] ws as′ (answer (w .number) 0 (run (w .fragment) cs [] .outcome) ∷ []) (w .number ∷ [])
     settles-at-once e = (
       record {
         past = i .past ++ asTx w ∷ [];
@@ -87,14 +87,14 @@ module _ (cs₀ : Cells) (top : ℕ) (l : Log) (rises : InOrder 0 top l) where
             (λ a t. followed-idle 0 (i .past) (asTx w ∷ []) (i .base) (run (w .fragment) cs [] .cells) (i .more) [] [] a t) as′ (i .followed))
             ((λ h. absurd (h refl)), tt);
       },
-      singled-settles cs₀ top l (i .past) (asTx w) (map asTx ws) (answer (w .number) 0 (run (w .fragment) cs [] .outcome)) rises (i .split) (i .closed) st e
+      went-settles cs₀ top l (i .past) (asTx w) (map asTx ws) (answer (w .number) 0 (run (w .fragment) cs [] .outcome)) rises (i .split) (i .closed) st e
           (ap (answer (w .number) 0) (tells-at w cs (serial (settledOf (i .past)) cs₀) (i .based ∙ i .chain))),
     )
       where
         st : standing (asTx w) ≡ Settles
         st = ap {B = Standing} (λ (b : Bool). elim b [ false ↦ Settles | true ↦ Undecided ]) e
 
-    becomes-front : multi (w .fragment) ≡ true → Onto cs₀ l (i .past) (run (w .fragment) cs [] .cells) (begun w (run (w .fragment) cs []) Sent ∷ []) ws as′ (answer (w .number) 0 (run (w .fragment) cs [] .outcome) ∷ [])
+    becomes-front : multi (w .fragment) ≡ true → Onto cs₀ l (i .past) (run (w .fragment) cs [] .cells) (begun w (run (w .fragment) cs []) Sent ∷ []) ws as′ (answer (w .number) 0 (run (w .fragment) cs [] .outcome) ∷ []) []
     becomes-front e = (
       record {
         past = i .past;
@@ -111,7 +111,7 @@ module _ (cs₀ : Cells) (top : ℕ) (l : Log) (rises : InOrder 0 top l) where
             (λ a t. rw (← append-nil (i .past)) (followed-idle 0 (i .past) [] (i .base) cs (i .more) [] (begun w (run (w .fragment) cs []) Sent ∷ []) a t)) as′ (i .followed))
             ((λ h. absurd (h refl)), tt);
       },
-      singled-multi cs₀ top l (i .past) (i .past) (asTx w) (map asTx ws) (answer (w .number) 0 (run (w .fragment) cs [] .outcome)) (i .past) rises (i .split) e refl refl,
+      went-multi cs₀ top l (i .past) (i .past) (asTx w) (map asTx ws) (answer (w .number) 0 (run (w .fragment) cs [] .outcome)) (i .past) rises (i .split) e refl refl,
     )
 
   -- Behind the last of the uncommitted ones
@@ -119,8 +119,8 @@ module _ (cs₀ : Cells) (top : ℕ) (l : Log) (rises : InOrder 0 top l) where
       (f : lastFinished (u ∷ us) ≡ true) where
     joins : (a : Reply) → ((o : Outcome) → a ≡ Held o → o ≡ run (w .fragment) cs [] .outcome) → (multi (w .fragment) || holds a) ≡ true → (new : List Answer)
         → All (Followed 0 (i .past) (i .base) (i .more) (u ∷ us ++ (begun w (run (w .fragment) cs []) a ∷ []))) new
-        → Singled cs₀ l (i .past) (i .past) new
-        → Onto cs₀ l (i .past) (run (w .fragment) cs [] .cells) (u ∷ us ++ (begun w (run (w .fragment) cs []) a ∷ [])) ws as′ new
+        → Went cs₀ l (i .past) (i .past) new []
+        → Onto cs₀ l (i .past) (run (w .fragment) cs [] .cells) (u ∷ us ++ (begun w (run (w .fragment) cs []) a ∷ [])) ws as′ new []
     joins a h hd new t s = (
       record {
         past = i .past;
@@ -142,12 +142,12 @@ module _ (cs₀ : Cells) (top : ℕ) (l : Log) (rises : InOrder 0 top l) where
     )
 
     -- a held one
-    joins-held : Onto cs₀ l (i .past) (run (w .fragment) cs [] .cells) (u ∷ us ++ (begun w (run (w .fragment) cs []) (Held (run (w .fragment) cs [] .outcome)) ∷ [])) ws as′ []
-    joins-held = joins (Held (run (w .fragment) cs [] .outcome)) (λ o h. held-inj o (run (w .fragment) cs [] .outcome) h) (or-true (multi (w .fragment)) true refl) [] tt (singled-none cs₀ l (i .past) (i .past) refl)
+    joins-held : Onto cs₀ l (i .past) (run (w .fragment) cs [] .cells) (u ∷ us ++ (begun w (run (w .fragment) cs []) (Held (run (w .fragment) cs [] .outcome)) ∷ [])) ws as′ [] []
+    joins-held = joins (Held (run (w .fragment) cs [] .outcome)) (λ o h. held-inj o (run (w .fragment) cs [] .outcome) h) (or-true (multi (w .fragment)) true refl) [] tt (went-none cs₀ l (i .past) (i .past) refl)
 
     -- one that is answered with a dependence
     joins-answered : multi (w .fragment) ≡ true → Onto cs₀ l (i .past) (run (w .fragment) cs [] .cells) (u ∷ us ++ (begun w (run (w .fragment) cs []) Sent ∷ [])) ws as′
-        (answer (w .number) (nearest 0 (u ∷ us)) (run (w .fragment) cs [] .outcome) ∷ [])
+        (answer (w .number) (nearest 0 (u ∷ us)) (run (w .fragment) cs [] .outcome) ∷ []) []
     joins-answered e = joins Sent (λ o h. sent-is-not-held o _ h) (ap (λ (b : Bool). b || false) e) (answer (w .number) (nearest 0 (u ∷ us)) (run (w .fragment) cs [] .outcome) ∷ []) (
       (λ h. inl (record {
         ahead = lives (i .more) (u ∷ us);
@@ -159,7 +159,7 @@ module _ (cs₀ : Cells) (top : ℕ) (l : Log) (rises : InOrder 0 top l) where
         foretells = tells-at w cs (serial (lives (i .more) (u ∷ us)) (i .base)) (chain-cells (i .base) (i .more) (u ∷ us) cs (i .chain));
       })),
       tt,
-    ) (singled-multi cs₀ top l (i .past ++ lives (i .more) (u ∷ us)) (i .past) (asTx w) (map asTx ws) (answer (w .number) (nearest 0 (u ∷ us)) (run (w .fragment) cs [] .outcome)) (i .past) rises
+    ) (went-multi cs₀ top l (i .past ++ lives (i .more) (u ∷ us)) (i .past) (asTx w) (map asTx ws) (answer (w .number) (nearest 0 (u ∷ us)) (run (w .fragment) cs [] .outcome)) (i .past) rises
         (i .split ∙ sym (append-assoc (i .past) (lives (i .more) (u ∷ us)) (asTx w ∷ map asTx ws))) e refl refl)
 
     plain-answered : Plain cs₀ l (answer (w .number) (nearest 0 (u ∷ us)) (run (w .fragment) cs [] .outcome))
@@ -168,14 +168,14 @@ module _ (cs₀ : Cells) (top : ℕ) (l : Log) (rises : InOrder 0 top l) where
 
   -- take the first waiting one and run it
   pub placed-inv : (σ : Scheme) (us : List Uncommitted) (w : Waiting) (ws : List Waiting) (cs : Cells) (as′ : List Answer) → mayTake σ us ≡ true → (i : Inv cs₀ l cs us (w ∷ ws) as′)
-      → Onto cs₀ l (i .past) (run (w .fragment) cs [] .cells) (placed us w (run (w .fragment) cs []) .uncommitted) ws as′ (placed us w (run (w .fragment) cs []) .answers)
+      → Onto cs₀ l (i .past) (run (w .fragment) cs [] .cells) (placed us w (run (w .fragment) cs []) .uncommitted) ws as′ (placed us w (run (w .fragment) cs []) .answers) (placed us w (run (w .fragment) cs []) .settles)
       × All (Plain cs₀ l) (placed us w (run (w .fragment) cs []) .answers)
   placed-inv σ [] w ws cs as′ m i =
-      placed-idle (λ (p : Place). Onto cs₀ l (i .past) (run (w .fragment) cs [] .cells) (p .uncommitted) ws as′ (p .answers) × All (Plain cs₀ l) (p .answers)) w (run (w .fragment) cs [])
+      placed-idle (λ (p : Place). Onto cs₀ l (i .past) (run (w .fragment) cs [] .cells) (p .uncommitted) ws as′ (p .answers) (p .settles) × All (Plain cs₀ l) (p .answers)) w (run (w .fragment) cs [])
       (λ e. (settles-at-once w ws cs as′ i e, (plain-first w ws cs as′ i, tt))) (λ e. (becomes-front w ws cs as′ i e, (plain-first w ws cs as′ i, tt)))
   placed-inv σ (u ∷ us) w ws cs as′ m i =
       let f = may-finished σ u us m in
-      placed-behind (λ (p : Place). Onto cs₀ l (i .past) (run (w .fragment) cs [] .cells) (p .uncommitted) ws as′ (p .answers) × All (Plain cs₀ l) (p .answers)) u us w (run (w .fragment) cs [])
+      placed-behind (λ (p : Place). Onto cs₀ l (i .past) (run (w .fragment) cs [] .cells) (p .uncommitted) ws as′ (p .answers) (p .settles) × All (Plain cs₀ l) (p .answers)) u us w (run (w .fragment) cs [])
       (joins-held u us w ws cs as′ i f, tt) (λ e. (joins-answered u us w ws cs as′ i f e, (plain-answered u us w ws cs as′ i f, tt)))
 
 -- after a drain that began with the past P
@@ -185,14 +185,14 @@ pub record After (cs₀ : Cells) (l P : Log) (as′ : List Answer) (q : Queues) 
   pub idle : q .uncommitted ≡ [] → q .waiting ≡ []
   pub plain : All (Plain cs₀ l) (q .answers)
   -- all that can settle has settled, and each single of it was answered
-  pub singles : Singled cs₀ l P l (q .answers)
+  pub went : Went cs₀ l P l (q .answers) (q .settles)
 
 pub drain-inv : (σ : Scheme) (cs₀ : Cells) (top : ℕ) (l : Log) → InOrder 0 top l → (cs : Cells) (us : List Uncommitted) (ws : List Waiting) (as′ : List Answer) (i : Inv cs₀ l cs us ws as′) → After cs₀ l (i .past) as′ (drain σ cs us ws)
 unfolding drain
-drain-inv σ cs₀ top l rises cs us [] as′ i = record { inv = rw append-nil i; idle = λ _. refl; plain = tt; singles = singled-none cs₀ l (i .past) l (settled-is cs₀ l cs us [] as′ i (λ _. refl) .0) }
+drain-inv σ cs₀ top l rises cs us [] as′ i = record { inv = rw append-nil i; idle = λ _. refl; plain = tt; went = went-none cs₀ l (i .past) l (settled-is cs₀ l cs us [] as′ i (λ _. refl) .0) }
 drain-inv σ cs₀ top l rises cs us (w ∷ ws) as′ i = drain-cases (After cs₀ l (i .past) as′) σ cs us w ws
     (λ e. let none : us ≡ [] → w ∷ ws ≡ [] = λ h. absurd (true≢false (sym (ap (mayTake σ) h) ∙ e)) in
-    record { inv = rw append-nil i; idle = none; plain = tt; singles = singled-none cs₀ l (i .past) l (settled-is cs₀ l cs us (w ∷ ws) as′ i none .0) })
+    record { inv = rw append-nil i; idle = none; plain = tt; went = went-none cs₀ l (i .past) l (settled-is cs₀ l cs us (w ∷ ws) as′ i none .0) })
     (λ e. let pl : Place = placed us w (run (w .fragment) cs []) in
     let q : Queues = drain σ (run (w .fragment) cs [] .cells) (pl .uncommitted) ws in
     let p = placed-inv cs₀ top l rises σ us w ws cs as′ e i in
@@ -201,5 +201,5 @@ drain-inv σ cs₀ top l rises cs us (w ∷ ws) as′ i = drain-cases (After cs�
       inv = subst (λ (x : List Answer). Inv cs₀ l (q .cells) (q .uncommitted) (q .waiting) x) (append-assoc as′ (pl .answers) (q .answers)) (a .inv);
       idle = a .idle;
       plain = all-append (Plain cs₀ l) (pl .answers) (q .answers) (p .1) (a .plain);
-      singles = singled-both cs₀ l (i .past) (p .0 .0 .past) l (pl .answers) (q .answers) (p .0 .1) (a .singles);
+      went = went-both cs₀ l (i .past) (p .0 .0 .past) l (pl .answers) (q .answers) (pl .settles) (q .settles) (p .0 .1) (a .went);
     })

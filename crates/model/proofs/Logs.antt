@@ -147,30 +147,3 @@ rises-settled n top (t ∷ ts) h = go (standing t) (rises-settled (t .number) to
     go Settles k = (h .0, k)
     go Gone k = rises-weaken n (t .number) top (settledOf ts ++ liveOf ts) (omega (arith, h .0)) k
     go Undecided k = h
-
--- what settles later settles behind what is settled
-abbrev pub Grows : Log → Log → Type 0
-Grows l l′ = (more : List Tx) × (settledOf l′ ≡ settledOf l ++ more)
-
-pub grows-same : (l : Log) → Grows l l
-grows-same l = ([], sym (append-nil (settledOf l)))
-
--- one more transaction
-pub grows-more : (l : Log) (t : Tx) → Grows l (l ++ t ∷ [])
-grows-more [] t = (settledOf (t ∷ []), refl)
-grows-more (p ∷ P) t = go (standing p) (grows-more P t)
-  where
-    go : (s : Standing) → Grows P (P ++ t ∷ [])
-        → (more : List Tx) × (_≡_ {A = Log} (elim s [ Settles ↦ p ∷ settledOf (P ++ t ∷ []) | Gone ↦ settledOf (P ++ t ∷ []) | Undecided ↦ [] ])
-        ((elim s [ Settles ↦ p ∷ settledOf P | Gone ↦ settledOf P | Undecided ↦ [] ]) ++ more))
-    go Settles g = (g .0, ap {B = Log} (λ (x : Log). p ∷ x) (g .1))
-    go Gone g = g
-    go Undecided g = ([], refl)
-
-settled-front : (P : Log) (t : Tx) (R : Log) → Closed P → standing t ≡ Undecided → settledOf (P ++ t ∷ R) ≡ settledOf P
-settled-front P t R c e =
-    settled-append P (t ∷ R) c ∙ ap {B = Log} (λ (s : Standing). settledOf P ++ elim s [ Settles ↦ t ∷ settledOf R | Gone ↦ settledOf R | Undecided ↦ [] ]) e ∙ append-nil (settledOf P)
-
--- a change of the first undecided one
-pub grows-put : (P : Log) (t t′ : Tx) (R : Log) → Closed P → standing t ≡ Undecided → Grows (P ++ t ∷ R) (P ++ t′ ∷ R)
-grows-put P t t′ R c e = (settledOf (t′ ∷ R), settled-append P (t′ ∷ R) c ∙ ap (λ (x : Log). x ++ settledOf (t′ ∷ R)) (sym (settled-front P t R c e)))

@@ -1,5 +1,5 @@
--- Laws of what singles are answered, of logs and lists of answers alone: the replies of a past that grows, and the answers of singles among those
--- that are sent.
+-- Laws of who settles and what singles are answered, of logs and lists of answers alone: a past that grows and its replies, and the answers of
+-- singles among those that are sent.
 use Prim.Native.Nat.{ℕ}
 use mathlib.Core.Path.{_≡_, refl, sym, ap, _∙_, subst}
 use mathlib.Core.Bool.{Bool, true, false, not}
@@ -7,13 +7,20 @@ use mathlib.Core.List.{List, [], _∷_, _++_, append-assoc, append-nil}
 use Rattle.model.specs.Operations.{Cells, multi, told}
 use Rattle.model.specs.Transactions.{Answer, answer}
 use Rattle.model.specs.Serial.{Tx, attempt, effect, serial}
-use Rattle.model.specs.Demand.{Log, Standing, Settles, Gone, Undecided, standing, settledOf, Found, This, None, the}
+use Rattle.model.specs.Demand.{Log, Standing, Settles, Gone, Undecided, standing, settledOf, numbersOf, Found, This, None, the}
 use Rattle.model.specs.Schemes.{single, ofSingles, replies}
 use Rattle.model.proofs.Logs.{InOrder, the-at, Closed, settled-snoc, settled-gone}
 
--- from the past P to the past Q, these answers have those of the singles that settled, in order
-abbrev pub Singled : Cells → Log → Log → Log → List Answer → Type 0
-Singled cs l P Q as′ = replies (settledOf Q) cs ≡ replies (settledOf P) cs ++ ofSingles l as′
+-- from the past P to the past Q: who settles, in order, with these numbers; and these answers have those of the singles among them, in that order
+pub record Went (cs : Cells) (l P Q : Log) (as′ : List Answer) (ns : List ℕ) : Type 0 where
+  pub more : List Tx
+  pub grows : settledOf Q ≡ settledOf P ++ more
+  pub named : numbersOf more ≡ ns
+  pub singles : replies (settledOf Q) cs ≡ replies (settledOf P) cs ++ ofSingles l as′
+
+numbers-append : (a b : List Tx) → numbersOf (a ++ b) ≡ numbersOf a ++ numbersOf b
+numbers-append [] b = refl
+numbers-append (t ∷ a) b = ap {B = List ℕ} (λ (x : List ℕ). t .number ∷ x) (numbers-append a b)
 
 of-append : (l : Log) (a b : List Answer) → ofSingles l (a ++ b) ≡ ofSingles l a ++ ofSingles l b
 of-append l [] b = refl
@@ -35,18 +42,32 @@ replies-append (t ∷ a) b cs = go (multi (t .first)) (replies-append a b (effec
     go false e = ap {B = List Answer} (λ (y : List Answer). answer (t .number) 0 (told (attempt t cs)) ∷ y) e
 
 -- nothing sent, and nothing more settled
-pub singled-none : (cs : Cells) (l P Q : Log) → settledOf Q ≡ settledOf P → Singled cs l P Q []
-singled-none cs l P Q e = ap (λ (x : List Tx). replies x cs) e ∙ sym (append-nil (replies (settledOf P) cs))
+pub went-none : (cs : Cells) (l P Q : Log) → settledOf Q ≡ settledOf P → Went cs l P Q [] []
+went-none cs l P Q e = record {
+  more = [];
+  grows = e ∙ sym (append-nil (settledOf P));
+  named = refl;
+  singles = ap (λ (x : List Tx). replies x cs) e ∙ sym (append-nil (replies (settledOf P) cs));
+}
 
 -- one after the other
-pub singled-both : (cs : Cells) (l P Q R : Log) (a b : List Answer) → Singled cs l P Q a → Singled cs l Q R b → Singled cs l P R (a ++ b)
-singled-both cs l P Q R a b s t =
-    t ∙ ap (λ (x : List Answer). x ++ ofSingles l b) s ∙ append-assoc (replies (settledOf P) cs) (ofSingles l a) (ofSingles l b)
-    ∙ ap (λ (x : List Answer). replies (settledOf P) cs ++ x) (sym (of-append l a b))
+pub went-both : (cs : Cells) (l P Q R : Log) (a b : List Answer) (m n : List ℕ) → Went cs l P Q a m → Went cs l Q R b n → Went cs l P R (a ++ b) (m ++ n)
+went-both cs l P Q R a b m n s t = record {
+  more = s .more ++ t .more;
+  grows = t .grows ∙ ap (λ (x : List Tx). x ++ t .more) (s .grows) ∙ append-assoc (settledOf P) (s .more) (t .more);
+  named = numbers-append (s .more) (t .more) ∙ (λ i. s .named i ++ t .named i);
+  singles = t .singles ∙ ap (λ (x : List Answer). x ++ ofSingles l b) (s .singles) ∙ append-assoc (replies (settledOf P) cs) (ofSingles l a) (ofSingles l b)
+      ∙ ap (λ (x : List Answer). replies (settledOf P) cs ++ x) (sym (of-append l a b));
+}
 
 -- from another past in which the same is settled
-pub singled-from : (cs : Cells) (l P P′ Q : Log) (a : List Answer) → settledOf P ≡ settledOf P′ → Singled cs l P Q a → Singled cs l P′ Q a
-singled-from cs l P P′ Q a e s = s ∙ ap (λ (x : List Tx). replies x cs ++ ofSingles l a) e
+pub went-from : (cs : Cells) (l P P′ Q : Log) (a : List Answer) (m : List ℕ) → settledOf P ≡ settledOf P′ → Went cs l P Q a m → Went cs l P′ Q a m
+went-from cs l P P′ Q a m e s = record {
+  more = s .more;
+  grows = s .grows ∙ ap (λ (x : List Tx). x ++ s .more) e;
+  named = s .named;
+  singles = s .singles ∙ ap (λ (x : List Tx). replies x cs ++ ofSingles l a) e;
+}
 
 -- whose answer it is
 single-at : (top : ℕ) (l P : Log) (t : Tx) (R : Log) → InOrder 0 top l → l ≡ P ++ t ∷ R → single (t .number) l ≡ not (multi (t .first))
@@ -59,16 +80,22 @@ of-multi top l P t R a h e m n =
     ap {B = List Answer} (λ (s : Bool). elim s [ true ↦ a ∷ [] | false ↦ [] ]) (ap (λ (k : ℕ). single k l) n ∙ single-at top l P t R h e ∙ ap not m)
 
 -- a multi's answers, while nothing more settles
-pub singled-multi : (cs : Cells) (top : ℕ) (l P Q : Log) (t : Tx) (R : Log) (a : Answer) (p : Log) → InOrder 0 top l → l ≡ P ++ t ∷ R → multi (t .first) ≡ true → a .number ≡ t .number → settledOf Q ≡ settledOf p → Singled cs l p Q (a ∷ [])
-singled-multi cs top l P Q t R a p h e m n q = singled-none cs l p Q q ∙ ap (λ (x : List Answer). replies (settledOf p) cs ++ x) (sym (of-multi top l P t R a h e m n))
+pub went-multi : (cs : Cells) (top : ℕ) (l P Q : Log) (t : Tx) (R : Log) (a : Answer) (p : Log) → InOrder 0 top l → l ≡ P ++ t ∷ R → multi (t .first) ≡ true → a .number ≡ t .number → settledOf Q ≡ settledOf p → Went cs l p Q (a ∷ []) []
+went-multi cs top l P Q t R a p h e m n q =
+    let s = went-none cs l p Q q in
+    record { more = s .more; grows = s .grows; named = s .named; singles = s .singles ∙ ap (λ (x : List Answer). replies (settledOf p) cs ++ x) (sym (of-multi top l P t R a h e m n)) }
 
 -- a single settles with its answer
-pub singled-settles : (cs : Cells) (top : ℕ) (l P : Log) (t : Tx) (R : Log) (a : Answer) → InOrder 0 top l → l ≡ P ++ t ∷ R → Closed P → standing t ≡ Settles → multi (t .first) ≡ false
-    → a ≡ answer (t .number) 0 (told (attempt t (serial (settledOf P) cs))) → Singled cs l P (P ++ t ∷ []) (a ∷ [])
-singled-settles cs top l P t R a h e c s m is =
-    ap (λ (x : List Tx). replies x cs) (settled-snoc P t c s) ∙ replies-append (settledOf P) (t ∷ []) cs
-    ∙ ap {B = List Answer} (λ (b : Bool). replies (settledOf P) cs ++ elim b [ true ↦ [] | false ↦ answer (t .number) 0 (told (attempt t (serial (settledOf P) cs))) ∷ [] ]) m
-    ∙ ap (λ (x : List Answer). replies (settledOf P) cs ++ x) (sym whose)
+pub went-settles : (cs : Cells) (top : ℕ) (l P : Log) (t : Tx) (R : Log) (a : Answer) → InOrder 0 top l → l ≡ P ++ t ∷ R → Closed P → standing t ≡ Settles → multi (t .first) ≡ false
+    → a ≡ answer (t .number) 0 (told (attempt t (serial (settledOf P) cs))) → Went cs l P (P ++ t ∷ []) (a ∷ []) (t .number ∷ [])
+went-settles cs top l P t R a h e c s m is = record {
+  more = t ∷ [];
+  grows = settled-snoc P t c s;
+  named = refl;
+  singles = ap (λ (x : List Tx). replies x cs) (settled-snoc P t c s) ∙ replies-append (settledOf P) (t ∷ []) cs
+      ∙ ap {B = List Answer} (λ (b : Bool). replies (settledOf P) cs ++ elim b [ true ↦ [] | false ↦ answer (t .number) 0 (told (attempt t (serial (settledOf P) cs))) ∷ [] ]) m
+      ∙ ap (λ (x : List Answer). replies (settledOf P) cs ++ x) (sym whose);
+}
   where
     whose : ofSingles l (a ∷ []) ≡ answer (t .number) 0 (told (attempt t (serial (settledOf P) cs))) ∷ []
     whose =
@@ -76,10 +103,14 @@ singled-settles cs top l P t R a h e c s m is =
         ∙ ap {B = List Answer} (λ (x : Answer). x ∷ []) is
 
 -- a multi settles, or is gone: nobody is answered
-pub singled-commit : (cs : Cells) (l P : Log) (t : Tx) → Closed P → standing t ≡ Settles → multi (t .first) ≡ true → Singled cs l P (P ++ t ∷ []) []
-singled-commit cs l P t c s m =
-    ap (λ (x : List Tx). replies x cs) (settled-snoc P t c s) ∙ replies-append (settledOf P) (t ∷ []) cs
-    ∙ ap {B = List Answer} (λ (b : Bool). replies (settledOf P) cs ++ elim b [ true ↦ [] | false ↦ answer (t .number) 0 (told (attempt t (serial (settledOf P) cs))) ∷ [] ]) m
+pub went-commit : (cs : Cells) (l P : Log) (t : Tx) → Closed P → standing t ≡ Settles → multi (t .first) ≡ true → Went cs l P (P ++ t ∷ []) [] (t .number ∷ [])
+went-commit cs l P t c s m = record {
+  more = t ∷ [];
+  grows = settled-snoc P t c s;
+  named = refl;
+  singles = ap (λ (x : List Tx). replies x cs) (settled-snoc P t c s) ∙ replies-append (settledOf P) (t ∷ []) cs
+      ∙ ap {B = List Answer} (λ (b : Bool). replies (settledOf P) cs ++ elim b [ true ↦ [] | false ↦ answer (t .number) 0 (told (attempt t (serial (settledOf P) cs))) ∷ [] ]) m;
+}
 
-pub singled-gone : (cs : Cells) (l P : Log) (t : Tx) → Closed P → standing t ≡ Gone → Singled cs l P (P ++ t ∷ []) []
-singled-gone cs l P t c s = singled-none cs l P (P ++ t ∷ []) (settled-gone P t c s)
+pub went-gone : (cs : Cells) (l P : Log) (t : Tx) → Closed P → standing t ≡ Gone → Went cs l P (P ++ t ∷ []) [] []
+went-gone cs l P t c s = went-none cs l P (P ++ t ∷ []) (settled-gone P t c s)

@@ -1,7 +1,7 @@
 -- Commit, abort and arrivals keep the invariant.
 use Prim.Native.Nat.{ℕ, zero, suc, _+_, _≤_, _<_}
 use native.Mathlib.Omega.{arith}
-use mathlib.Core.Path.{_≡_, refl, sym, ap, _∙_, subst, subst₂}
+use mathlib.Core.Path.{_≡_, refl, sym, ap, _∙_, subst}
 use mathlib.Core.Bool.{Bool, true, false, _||_, true≢false}
 use mathlib.Core.Logic.{_⊎_, inl, inr}
 use mathlib.Core.List.{List, [], _∷_, _++_, map, append-assoc, append-nil, List·Memᴰ, List·Memᴰ·head, Memᴰ·append-right, nil≢cons}
@@ -13,9 +13,9 @@ use Rattle.model.specs.Serial.{Tx, Decision, Open, Committed, Aborted, a
 use Rattle.model.specs.Demand.{Log, Standing, Settles, Gone, Undecided, standing, settledOf, Gives, at, extended, decided}
 use Rattle.model.specs.declared.Fragment.{Fragment}
 use Rattle.model.specs.declared.Scheme.{Scheme}
-use Rattle.model.proofs.Logs.{InOrder, rises-at, rises-put, rises-more, rises-below, gives-at, Past, Closed, closed-snoc, past-settles, past-gone, at-at, Grows, grows-more, grows-put}
+use Rattle.model.proofs.Logs.{InOrder, rises-at, rises-put, rises-more, rises-below, gives-at, Past, Closed, closed-snoc, past-settles, past-gone, at-at}
 use Rattle.model.proofs.Chain.{asTx, txOf, lives, Entry, Chain, ButLast, FrontMulti, Pend, InPast, Followed, all-map, all-append, Inv, chain-undone, lives-requeued, ready-tail, again-entry, sent-is-not-held, followed-idle, in-past, pend-multi-leaves, pend-single-leaves, pend-front, pend-alone, settled-is}
-use Rattle.model.proofs.Replying.{Singled, singled-none, singled-both, singled-from, singled-multi, singled-settles, singled-commit, singled-gone}
+use Rattle.model.proofs.Replying.{Went, went-none, went-both, went-from, went-multi, went-settles, went-commit, went-gone}
 use Rattle.model.proofs.Branches.{settled-cases, held-cases}
 use Rattle.model.proofs.Draining.{Plain, After, drain-inv, past-if}
 use Rattle.model.specs.Parts.{All}
@@ -59,17 +59,17 @@ module _ (cs₀ : Cells) (top : ℕ) (l : Log) (rises : InOrder 0 top l) (cs : C
   )) (λ _. tt)
 
   -- a single that settles holds its answer; a multi that holds one is no single
-  held-single : (u : Uncommitted) (us : List Uncommitted) (m : Mid cs₀ l cs k (u ∷ us) ws as′) → multi (u .first) ≡ false → Singled cs₀ l (m .past) (m .past ++ txOf [] u ∷ []) (heldBy u)
-  held-single u us m e = held-cases (Singled cs₀ l (m .past) (m .past ++ txOf [] u ∷ [])) u
-      (λ o x. singled-settles cs₀ top l (m .past) (txOf [] u) (lives [] us ++ map asTx ws) (answer (u .number) 0 o) rises (m .split) (m .closed)
+  held-single : (u : Uncommitted) (us : List Uncommitted) (m : Mid cs₀ l cs k (u ∷ us) ws as′) → multi (u .first) ≡ false → Went cs₀ l (m .past) (m .past ++ txOf [] u ∷ []) (heldBy u) (u .number ∷ [])
+  held-single u us m e = held-cases (λ (a : List Answer). Went cs₀ l (m .past) (m .past ++ txOf [] u ∷ []) a (u .number ∷ [])) u
+      (λ o x. went-settles cs₀ top l (m .past) (txOf [] u) (lives [] us ++ map asTx ws) (answer (u .number) 0 o) rises (m .split) (m .closed)
       (ap {B = Standing} (λ (b : Bool). elim b [ false ↦ Settles | true ↦ Undecided ]) e) e
       (ap (answer (u .number) 0) (m .chain .0 .says o x ∙ ap (λ (y : Cells). told (attempt (txOf [] u) y)) (sym (m .based)))))
       (λ n. absurd (true≢false (sym (m .chain .0 .held) ∙ (λ i. e i || n i))))
 
-  held-multi : (u : Uncommitted) (us : List Uncommitted) (m : Mid cs₀ l cs k (u ∷ us) ws as′) → multi (u .first) ≡ true → Singled cs₀ l (m .past) (m .past) (heldBy u)
-  held-multi u us m e = held-cases (Singled cs₀ l (m .past) (m .past)) u
-      (λ o _. singled-multi cs₀ top l (m .past) (m .past) (txOf [] u) (lives [] us ++ map asTx ws) (answer (u .number) 0 o) (m .past) rises (m .split) e refl refl)
-      (λ _. singled-none cs₀ l (m .past) (m .past) refl)
+  held-multi : (u : Uncommitted) (us : List Uncommitted) (m : Mid cs₀ l cs k (u ∷ us) ws as′) → multi (u .first) ≡ true → Went cs₀ l (m .past) (m .past) (heldBy u) []
+  held-multi u us m e = held-cases (λ (a : List Answer). Went cs₀ l (m .past) (m .past) a []) u
+      (λ o _. went-multi cs₀ top l (m .past) (m .past) (txOf [] u) (lives [] us ++ map asTx ws) (answer (u .number) 0 o) (m .past) rises (m .split) e refl refl)
+      (λ _. went-none cs₀ l (m .past) (m .past) refl)
 
   -- a multi is first: the new front
   new-front : (u : Uncommitted) (us : List Uncommitted) → multi (u .first) ≡ true → Mid cs₀ l cs k (u ∷ us) ws as′ → Inv cs₀ l cs (sent u ∷ us) ws as′
@@ -132,7 +132,7 @@ module _ (cs₀ : Cells) (top : ℕ) (l : Log) (rises : InOrder 0 top l) (cs : C
 
   -- "Then singles settle and are answered from the front of the queue until a multi is first."
   pub settled-inv : (us : List Uncommitted) (m : Mid cs₀ l cs k us ws as′)
-      → ((j : Inv cs₀ l cs (settled us .uncommitted) ws as′) × Singled cs₀ l (m .past) (j .past) (settled us .answers)) × All (Sure cs₀ l) (settled us .answers)
+      → ((j : Inv cs₀ l cs (settled us .uncommitted) ws as′) × Went cs₀ l (m .past) (j .past) (settled us .answers) (settled us .settles)) × All (Sure cs₀ l) (settled us .answers)
   unfolding settled new-front single-settles
   settled-inv [] m = (
     (
@@ -149,15 +149,15 @@ module _ (cs₀ : Cells) (top : ℕ) (l : Log) (rises : InOrder 0 top l) (cs : C
         followed = all-map (Followed k (m .past) (m .base) [] []) (Followed 0 (m .past) (m .base) [] [])
             (λ a t. rw (← append-nil (m .past)) (followed-idle k (m .past) [] (m .base) (m .base) [] [] [] a t)) as′ (m .followed);
       },
-      singled-none cs₀ l (m .past) (m .past) refl,
+      went-none cs₀ l (m .past) (m .past) refl,
     ),
     tt,
   )
   settled-inv (u ∷ us) m =
-      settled-cases (λ (p : Place). ((j : Inv cs₀ l cs (p .uncommitted) ws as′) × Singled cs₀ l (m .past) (j .past) (p .answers)) × All (Sure cs₀ l) (p .answers)) u us
+      settled-cases (λ (p : Place). ((j : Inv cs₀ l cs (p .uncommitted) ws as′) × Went cs₀ l (m .past) (j .past) (p .answers) (p .settles)) × All (Sure cs₀ l) (p .answers)) u us
       (λ e. ((new-front u us e m, held-multi u us m e), held-sure u us m))
       (λ e. let x = settled-inv us (single-settles u us e m) in (
-        (x .0 .0, singled-both cs₀ l (m .past) (m .past ++ txOf [] u ∷ []) (x .0 .0 .past) (heldBy u) (settled us .answers) (held-single u us m e) (x .0 .1)),
+        (x .0 .0, went-both cs₀ l (m .past) (m .past ++ txOf [] u ∷ []) (x .0 .0 .past) (heldBy u) (settled us .answers) (u .number ∷ []) (settled us .settles) (held-single u us m e) (x .0 .1)),
         all-append (Sure cs₀ l) (heldBy u) (settled us .answers) (held-sure u us m) (x .1),
       ))
 
@@ -166,9 +166,8 @@ pub record Got (cs₀ : Cells) (l l′ : Log) (top′ : ℕ) (as′ : List Answe
   pub began : Log
   pub after : After cs₀ l′ began as′ q
   pub rises : InOrder 0 top′ l′
-  pub grows : Grows l l′
-  -- the answers of singles are those of the singles that settled, in that order
-  pub singles : Singled cs₀ l′ l l′ (q .answers)
+  -- those settled that the step names, and the answers of singles are those of the singles among them, in that order
+  pub went : Went cs₀ l′ l l′ (q .answers) (q .settles)
 
 followed-sure : (cs₀ : Cells) (l : Log) (P : Log) (b : Cells) (fs : List Fragment) (us : List Uncommitted) (new : List Answer) → All (Sure cs₀ l) new → All (Followed 0 P b fs us) new
 followed-sure cs₀ l P b fs us new h = all-map (Sure cs₀ l) (Followed 0 P b fs us) (λ a s z. absurd (z (s .0))) new h
@@ -191,17 +190,17 @@ followed cs₀ l cs us ws as′ new h i = record {
   followed = all-append (Followed 0 (i .past) (i .base) (i .more) us) as′ new (i .followed) (followed-sure cs₀ l (i .past) (i .base) (i .more) us new h);
 }
 
--- a call that sends some answers itself and then drains
-sends-drains : (σ : Scheme) (cs₀ : Cells) (top : ℕ) (l : Log) → InOrder 0 top l → (cs : Cells) (us : List Uncommitted) (ws : List Waiting) (as′ new : List Answer) → All (Sure cs₀ l) new → (P : Log) (i : Inv cs₀ l cs us ws as′)
-    → Singled cs₀ l P (i .past) new → After cs₀ l P as′ (sending new (drain σ cs us ws))
+-- a call that sends some answers itself, in which some settle, and then drains
+sends-drains : (σ : Scheme) (cs₀ : Cells) (top : ℕ) (l : Log) → InOrder 0 top l → (cs : Cells) (us : List Uncommitted) (ws : List Waiting) (as′ new : List Answer) (ns : List ℕ) → All (Sure cs₀ l) new → (P : Log) (i : Inv cs₀ l cs us ws as′)
+    → Went cs₀ l P (i .past) new ns → After cs₀ l P as′ (sending new ns (drain σ cs us ws))
 unfolding followed
-sends-drains σ cs₀ top l rises cs us ws as′ new h P i s =
+sends-drains σ cs₀ top l rises cs us ws as′ new ns h P i s =
     let a = drain-inv σ cs₀ top l rises cs us ws (as′ ++ new) (followed cs₀ l cs us ws as′ new h i) in
     record {
       inv = subst (λ (x : List Answer). Inv cs₀ l (drain σ cs us ws .cells) (drain σ cs us ws .uncommitted) (drain σ cs us ws .waiting) x) (append-assoc as′ new (drain σ cs us ws .answers)) (a .inv);
       idle = a .idle;
       plain = all-append (Plain cs₀ l) new (drain σ cs us ws .answers) (plain-sure cs₀ l new h) (a .plain);
-      singles = singled-both cs₀ l P (i .past) l new (drain σ cs us ws .answers) s (a .singles);
+      went = went-both cs₀ l P (i .past) l new (drain σ cs us ws .answers) ns (drain σ cs us ws .settles) s (a .went);
     }
 
 module _ (cs₀ : Cells) (top : ℕ) (l : Log) (rises : InOrder 0 top l) (cs : Cells) (ws : List Waiting) (as′ : List Answer) where
@@ -215,12 +214,6 @@ module _ (cs₀ : Cells) (top : ℕ) (l : Log) (rises : InOrder 0 top l) (cs : C
 
     pub rises-log-front : (g : Tx → Tx) → g (txOf (i .more) u) .number ≡ u .number → InOrder 0 top (at (u .number) g l)
     rises-log-front g e = subst (λ (x : Log). InOrder 0 top x) (sym (log-front g)) (rises-put 0 top (i .past) (txOf (i .more) u) (g (txOf (i .more) u)) (lives [] us ++ map asTx ws) e rises-front)
-
-    pub front-undecided : standing (txOf (i .more) u) ≡ Undecided
-    front-undecided = ap {B = Standing} (λ (b : Bool). elim b [ false ↦ Settles | true ↦ Undecided ]) (i .multi)
-
-    grows-front : (g : Tx → Tx) → Grows l (at (u .number) g l)
-    grows-front g = subst₂ Grows (sym (i .split)) (sym (log-front g)) (grows-put (i .past) (txOf (i .more) u) (g (txOf (i .more) u)) (lives [] us ++ map asTx ws) (i .closed) front-undecided)
 
     pub top-front : u .number ≤ top
     top-front = go 0 (i .past) rises-front
@@ -270,9 +263,9 @@ module _ (cs₀ : Cells) (top : ℕ) (l : Log) (rises : InOrder 0 top l) (cs : C
         let st : standing done ≡ Settles = ap {B = Standing} (λ (b : Bool). elim b [ false ↦ Settles | true ↦ Settles ]) (i .multi) in
         let h = rises-log-front (decided Committed) refl in
         let x = settled-inv cs₀ top l′ h cs (u .number) ws as′ us front-settles in
-        let a = sends-drains σ cs₀ top l′ h cs (settled us .uncommitted) ws as′ (settled us .answers) (x .1) (i .past) (x .0 .0)
-        (singled-both cs₀ l′ (i .past) (i .past ++ done ∷ []) (x .0 .0 .past) [] (settled us .answers) (singled-commit cs₀ l′ (i .past) done (i .closed) st (i .multi)) (x .0 .1)) in
-        record { began = i .past; after = a; rises = h; grows = grows-front (decided Committed); singles = singled-from cs₀ l′ (i .past) l l′ (committed σ cs (u ∷ us) ws .answers) (sym settled-before) (a .singles) }
+        let a = sends-drains σ cs₀ top l′ h cs (settled us .uncommitted) ws as′ (settled us .answers) (u .number ∷ settled us .settles) (x .1) (i .past) (x .0 .0)
+        (went-both cs₀ l′ (i .past) (i .past ++ done ∷ []) (x .0 .0 .past) [] (settled us .answers) (u .number ∷ []) (settled us .settles) (went-commit cs₀ l′ (i .past) done (i .closed) st (i .multi)) (x .0 .1)) in
+        record { began = i .past; after = a; rises = h; went = went-from cs₀ l′ (i .past) l l′ (committed σ cs (u ∷ us) ws .answers) (committed σ cs (u ∷ us) ws .settles) (sym settled-before) (a .went) }
 
     -- "Abort of the front": nothing that depended is followed any longer
     pub abort-inv : (σ : Scheme) → Got cs₀ l (at (u .number) (decided Aborted) l) top [] (aborted σ cs (u ∷ us) ws)
@@ -283,8 +276,8 @@ module _ (cs₀ : Cells) (top : ℕ) (l : Log) (rises : InOrder 0 top l) (cs : C
           began = inv .past;
           after = a;
           rises = h;
-          grows = grows-front (decided Aborted);
-          singles = singled-from cs₀ l′ (i .past) l l′ (aborted σ cs (u ∷ us) ws .answers) (sym settled-before) (singled-both cs₀ l′ (i .past) (i .past ++ gone ∷ []) l′ [] (aborted σ cs (u ∷ us) ws .answers) (singled-gone cs₀ l′ (i .past) gone (i .closed) st) (a .singles));
+          went = went-from cs₀ l′ (i .past) l l′ (aborted σ cs (u ∷ us) ws .answers) (aborted σ cs (u ∷ us) ws .settles) (sym settled-before)
+              (went-both cs₀ l′ (i .past) (i .past ++ gone ∷ []) l′ [] (aborted σ cs (u ∷ us) ws .answers) [] (aborted σ cs (u ∷ us) ws .settles) (went-gone cs₀ l′ (i .past) gone (i .closed) st) (a .went));
         }
       where
         gone : Tx
@@ -319,8 +312,8 @@ again-inv σ cs₀ top l rises cs ws as′ u [] i f nf = record {
   began = i .past;
   after = after;
   rises = h;
-  grows = grows-front cs₀ top l rises cs ws as′ u [] i (extended f);
-  singles = singled-from cs₀ (at (u .number) (extended f) l) (i .past) l (at (u .number) (extended f) l) (continued σ f cs u [] ws .answers) (sym (settled-before cs₀ top l rises cs ws as′ u [] i)) (after .singles);
+  went = went-from cs₀ (at (u .number) (extended f) l) (i .past) l (at (u .number) (extended f) l) (continued σ f cs u [] ws .answers) (continued σ f cs u [] ws .settles)
+      (sym (settled-before cs₀ top l rises cs ws as′ u [] i)) (after .went);
 }
   where
     h : InOrder 0 top (at (u .number) (extended f) l)
@@ -353,7 +346,7 @@ again-inv σ cs₀ top l rises cs ws as′ u [] i f nf = record {
         go a z (inr y) = inr y
 
     after : After cs₀ (at (u .number) (extended f) l) (i .past) as′ (continued σ f cs u [] ws)
-    after = sends-drains σ cs₀ top (at (u .number) (extended f) l) h (run f cs (u .undo) .cells) (again u f (run f cs (u .undo)) ∷ []) ws as′ (answer (u .number) 0 (run f cs (u .undo) .outcome) ∷ []) (
+    after = sends-drains σ cs₀ top (at (u .number) (extended f) l) h (run f cs (u .undo) .cells) (again u f (run f cs (u .undo)) ∷ []) ws as′ (answer (u .number) 0 (run f cs (u .undo) .outcome) ∷ []) [] (
       (
         refl,
         gives-at cs₀ top (at (u .number) (extended f) l) (i .past) (txOf (i .more ++ (f ∷ [])) u) (map asTx ws) (run f cs (u .undo) .outcome) h log
@@ -361,7 +354,7 @@ again-inv σ cs₀ top l rises cs ws as′ u [] i f nf = record {
       ),
       tt,
     ) (i .past) inv
-        (singled-multi cs₀ top (at (u .number) (extended f) l) (i .past) (i .past) (txOf (i .more ++ (f ∷ [])) u) (map asTx ws) (answer (u .number) 0 (run f cs (u .undo) .outcome)) (i .past) h log (i .multi) refl refl)
+        (went-multi cs₀ top (at (u .number) (extended f) l) (i .past) (i .past) (txOf (i .more ++ (f ∷ [])) u) (map asTx ws) (answer (u .number) 0 (run f cs (u .undo) .outcome)) (i .past) h log (i .multi) refl refl)
 
 -- "Arrival, new number": join the end of the waiting queue
 pub new-inv : (σ : Scheme) (cs₀ : Cells) (top : ℕ) (l : Log) (rises : InOrder 0 top l) (cs : Cells) (us : List Uncommitted) (ws : List Waiting) (as′ : List Answer) (w : Waiting)
@@ -370,8 +363,8 @@ new-inv σ cs₀ top l rises cs us ws as′ w i idle k = record {
   began = i .past;
   after = after;
   rises = h;
-  grows = grows-more l (asTx w);
-  singles = singled-from cs₀ (l ++ asTx w ∷ []) (i .past) l (l ++ asTx w ∷ []) (joined σ (w .number) (w .fragment) cs us ws .answers) (sym (settled-is cs₀ l cs us ws as′ i idle .0)) (after .singles);
+  went = went-from cs₀ (l ++ asTx w ∷ []) (i .past) l (l ++ asTx w ∷ []) (joined σ (w .number) (w .fragment) cs us ws .answers) (joined σ (w .number) (w .fragment) cs us ws .settles)
+      (sym (settled-is cs₀ l cs us ws as′ i idle .0)) (after .went);
 }
   where
     h : InOrder 0 (w .number) (l ++ asTx w ∷ [])

@@ -11,7 +11,7 @@ use lib.Dec.{ltb, eqb}
 use lib.ListN.{length, take}
 use Rattle.model.specs.Operations.{Cells, Outcome, multi, told}
 use Rattle.model.specs.Transactions.{Engine, Answer, numbers}
-use Rattle.model.specs.Refusals.{Request, Arrive, Commit, Abort, request, isIn, Call, Stepped, step, start}
+use Rattle.model.specs.Refusals.{Request, Arrive, Commit, Abort, request, isIn, Call, Stepped, step, settlesIn, start}
 use Rattle.model.specs.Serial.{Tx, Decision, Open, Committed, Aborted, attempt, serial}
 use Rattle.model.specs.declared.Fragment.{Fragment}
 
@@ -131,12 +131,14 @@ Rises n top [] = n ≤ top
 Rises n top (m ∷ ms) = (n < m) × Rises m top ms
 
 -- "in number order": "the front door gives them in rising order, so a new transaction's number is larger than every accepted one before". All accepted
--- ones rise to the largest, without the aborted ones too; and what settles in a call settles behind all that was settled before it.
+-- ones rise to the largest, without the aborted ones too; and what settles in a call settles behind all that was settled before it. It is what the
+-- steps of that call name, in their order: the log and the steps say the same of who settles.
 pub record SettlingOrder (r : Run) (c : Call) : Type 0 where
   pub accepted : Rises 0 (r .engine .largest) (numbersOf (r .log))
   pub rises : Rises 0 (r .engine .largest) (numbersOf (settledOf (r .log) ++ liveOf (r .log)))
   pub more : List Tx
   pub grows : settledOf (onward r c .log) ≡ settledOf (r .log) ++ more
+  pub named : numbersOf more ≡ settlesIn (r .engine) c
 
 -- the part of the log before number n
 abbrev pub before : ℕ → Log → Log

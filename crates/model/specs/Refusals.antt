@@ -242,6 +242,14 @@ respond (suc k) e c = record { number = suc k; engine = e; cells = c .lent; answ
 unfoldable pub step : Engine → Call → Stepped
 step e c = respond (refusal e c) e c
 
+-- the numbers of those that settle in a call, by the number that it returned: in a refused one nobody does
+abbrev pub settlesBy : ℕ → Engine → Call → List ℕ
+settlesBy zero e c = taken (c .scheme) (request (c .event)) e (c .lent) .settles
+settlesBy (suc k) e c = []
+
+abbrev pub settlesIn : Engine → Call → List ℕ
+settlesIn e c = settlesBy (step e c .number) e c
+
 -- "Starting with 0 or above 4,096 cells returns 3 and a record with 0 cells"
 pub record Started : Type 0 where
   pub number : ℕ

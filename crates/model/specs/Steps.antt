@@ -73,46 +73,50 @@ abbrev pub mayTake : Scheme → List Uncommitted → Bool
 mayTake σ [] = true
 mayTake σ (u ∷ us) = elim σ [ Speculation ↦ ltb (length (u ∷ us)) depth && lastFinished (u ∷ us) | Blocking ↦ false ]
 
--- uncommitted ones, and answers sent
+-- uncommitted ones, answers sent, and the numbers of those that settle, in the order in which they do
 pub record Place : Type 0 where
   pub uncommitted : List Uncommitted
   pub answers : List Answer
+  pub settles : List ℕ
 
 -- Drain's three bullets: where the one that ran goes, behind those that are uncommitted
 unfoldable pub placed : List Uncommitted → Waiting → Ran → Place
 placed [] w r =
     elim (multi (w .fragment)) [
       -- "Nothing uncommitted, single: it settles at once and is answered, dependence 0."
-      | false ↦ record { uncommitted = []; answers = answer (w .number) 0 (r .outcome) ∷ [] }
+      | false ↦ record { uncommitted = []; answers = answer (w .number) 0 (r .outcome) ∷ []; settles = w .number ∷ [] }
       -- "Nothing uncommitted, multi: it becomes the front and is answered, dependence 0."
-      | true ↦ record { uncommitted = begun w r Sent ∷ []; answers = answer (w .number) 0 (r .outcome) ∷ [] }
+      | true ↦ record { uncommitted = begun w r Sent ∷ []; answers = answer (w .number) 0 (r .outcome) ∷ []; settles = [] }
     ]
+-- "Otherwise it joins the uncommitted ones.": it does not settle
 placed (u ∷ us) w r =
     elim (multi (w .fragment) && oneCoordinator (w .fragment .coordinator) (u ∷ us)) [
       -- "A single's answer is held. A multi is answered now .. else its answer is held."
-      | false ↦ record { uncommitted = u ∷ us ++ (begun w r (Held (r .outcome)) ∷ []); answers = [] }
+      | false ↦ record { uncommitted = u ∷ us ++ (begun w r (Held (r .outcome)) ∷ []); answers = []; settles = [] }
       -- "A multi is answered now, with a dependence on the nearest multi ahead of it"
-      | true ↦ record { uncommitted = u ∷ us ++ (begun w r Sent ∷ []); answers = answer (w .number) (nearest 0 (u ∷ us)) (r .outcome) ∷ [] }
+      | true ↦ record { uncommitted = u ∷ us ++ (begun w r Sent ∷ []); answers = answer (w .number) (nearest 0 (u ∷ us)) (r .outcome) ∷ []; settles = [] }
     ]
 
--- what a step leaves: the cells, both queues, and the answers in the order in which they are sent
+-- what a step leaves: the cells, both queues, and the answers in the order in which they are sent; and the numbers of those that settle in it, in
+-- the order in which they do
 pub record Queues : Type 0 where
   pub cells : Cells
   pub uncommitted : List Uncommitted
   pub waiting : List Waiting
   pub answers : List Answer
+  pub settles : List ℕ
 
--- these answers first
-abbrev pub sending : List Answer → Queues → Queues
-sending l q = record { cells = q .cells; uncommitted = q .uncommitted; waiting = q .waiting; answers = l ++ q .answers }
+-- these answers are sent first, and these settle first
+abbrev pub sending : List Answer → List ℕ → Queues → Queues
+sending l ns q = record { cells = q .cells; uncommitted = q .uncommitted; waiting = q .waiting; answers = l ++ q .answers; settles = ns ++ q .settles }
 
 -- "Drain: while something waits, and ..: take the first waiting one and run it."
 unfoldable pub drain : Scheme → Cells → List Uncommitted → List Waiting → Queues
-drain σ cs us [] = record { cells = cs; uncommitted = us; waiting = []; answers = [] }
+drain σ cs us [] = record { cells = cs; uncommitted = us; waiting = []; answers = []; settles = [] }
 drain σ cs us (w ∷ ws) =
     elim (mayTake σ us) [
-      | false ↦ record { cells = cs; uncommitted = us; waiting = w ∷ ws; answers = [] }
-      | true ↦ let p = placed us w (run (w .fragment) cs []) in sending (p .answers) (drain σ (run (w .fragment) cs [] .cells) (p .uncommitted) ws)
+      | false ↦ record { cells = cs; uncommitted = us; waiting = w ∷ ws; answers = []; settles = [] }
+      | true ↦ let p = placed us w (run (w .fragment) cs []) in sending (p .answers) (p .settles) (drain σ (run (w .fragment) cs [] .cells) (p .uncommitted) ws)
     ]
 
 -- the front after one more fragment
@@ -126,7 +130,7 @@ joined σ n f cs us ws = drain σ cs us (ws ++ (record { number = n; fragment = 
 -- "Arrival, number of the front (first uncommitted): run the fragment, answer with dependence 0, then drain."
 abbrev pub continued : Scheme → Fragment → Cells → Uncommitted → List Uncommitted → List Waiting → Queues
 continued σ f cs u us ws =
-    let r = run f cs (u .undo) in sending (answer (u .number) 0 (r .outcome) ∷ []) (drain σ (r .cells) (again u f r ∷ us) ws)
+    let r = run f cs (u .undo) in sending (answer (u .number) 0 (r .outcome) ∷ []) [] (drain σ (r .cells) (again u f r ∷ us) ws)
 
 abbrev pub arrived : Scheme → ℕ → Fragment → Cells → List Uncommitted → List Waiting → Queues
 arrived σ n f cs [] ws = joined σ n f cs [] ws
@@ -141,23 +145,24 @@ sent u = record { number = u .number; first = u .first; ran = u .ran; state = u 
 
 -- "Then singles settle and are answered from the front of the queue until a multi is first. That one is the new front"
 unfoldable pub settled : List Uncommitted → Place
-settled [] = record { uncommitted = []; answers = [] }
+settled [] = record { uncommitted = []; answers = []; settles = [] }
 settled (u ∷ us) =
     elim (multi (u .first)) [
-      | true ↦ record { uncommitted = sent u ∷ us; answers = heldBy u }
-      | false ↦ record { uncommitted = settled us .uncommitted; answers = heldBy u ++ settled us .answers }
+      | true ↦ record { uncommitted = sent u ∷ us; answers = heldBy u; settles = [] }
+      | false ↦ record { uncommitted = settled us .uncommitted; answers = heldBy u ++ settled us .answers; settles = u .number ∷ settled us .settles }
     ]
 
 -- "Commit of the front: it settles. Then singles settle .. Then drain." Its entries go with it.
 abbrev pub committed : Scheme → Cells → List Uncommitted → List Waiting → Queues
-committed σ cs [] ws = record { cells = cs; uncommitted = []; waiting = ws; answers = [] }
-committed σ cs (u ∷ us) ws = sending (settled us .answers) (drain σ cs (settled us .uncommitted) ws)
+committed σ cs [] ws = record { cells = cs; uncommitted = []; waiting = ws; answers = []; settles = [] }
+committed σ cs (u ∷ us) ws = sending (settled us .answers) (u .number ∷ settled us .settles) (drain σ cs (settled us .uncommitted) ws)
 
 -- "the others return to the head of the waiting queue in their old order"
 abbrev pub requeued : Uncommitted → Waiting
 requeued u = record { number = u .number; fragment = u .first }
 
--- "Abort of the front: undo all uncommitted from the tail to the front; the front is gone; the others return .. Then drain."
+-- "Abort of the front: undo all uncommitted from the tail to the front; the front is gone; the others return .. Then drain." The front
+-- does not settle; those do that settle in the drain.
 abbrev pub aborted : Scheme → Cells → List Uncommitted → List Waiting → Queues
-aborted σ cs [] ws = record { cells = cs; uncommitted = []; waiting = ws; answers = [] }
+aborted σ cs [] ws = record { cells = cs; uncommitted = []; waiting = ws; answers = []; settles = [] }
 aborted σ cs (u ∷ us) ws = drain σ (undone (undoList (u ∷ us)) cs) [] (map requeued us ++ ws)
