@@ -207,26 +207,40 @@ fn the_schemes_are_the_models_with_a_function_each() {
     assert_eq!(functions["harukdalis_call"], functions["harukdalis_call_blocking"]);
 }
 
-/// The record's fields and their words in the Rattle source, where it must be laid out as in C.
-fn rattle_fields() -> Vec<(String, u64)> {
-    let source = source("crates/record/src/lib.rt");
-    let (before, _) = source.split_once("pub struct Record {").expect("the record");
+/// The fields of a struct of the Rattle source, which must be laid out as in C: name and type.
+fn fields_of(source: &str, name: &str) -> Vec<(String, String)> {
+    let start = format!("pub struct {name} {{");
+    let (before, _) = source.split_once(&start).unwrap_or_else(|| panic!("no {name}"));
     let attributes: Vec<_> =
         before.lines().rev().map(str::trim).take_while(|l| l.is_empty() || l.starts_with("#[")).collect();
-    assert!(attributes.contains(&"#[repr(C)]"), "the record is not #[repr(C)]");
-    let lengths = constants(&source);
-    let fields = between(&source, "pub struct Record {", "}").lines().map(str::trim).filter(|line| !line.is_empty());
+    assert!(attributes.contains(&"#[repr(C)]"), "{name} is not #[repr(C)]");
+    let fields = between(source, &start, "}").lines().map(str::trim).filter(|line| !line.is_empty());
     fields
         .map(|field| {
             let field = field.strip_prefix("pub ").expect("a public field").trim_end_matches(',');
             let (name, kind) = field.split_once(':').expect("a field's type");
-            let words = match kind.trim() {
-                "u32" => 1,
-                row => lengths[between(row, "[u32;", "]").trim()],
-            };
-            (name.trim().into(), words)
+            (name.trim().into(), kind.trim().into())
         })
         .collect()
+}
+
+/// The record's fields and their words in the Rattle source. Its counts are one struct there and four fields in C, where
+/// the number of cells is called `count`.
+fn rattle_fields() -> Vec<(String, u64)> {
+    let source = source("crates/record/src/lib.rt");
+    let lengths = constants(&source);
+    let mut found = Vec::new();
+    for (name, kind) in fields_of(&source, "Record") {
+        if kind == "Counts" {
+            for (name, kind) in fields_of(&source, "Counts") {
+                assert_eq!(kind, "u32", "{name}");
+                found.push((if name == "cells" { "count".into() } else { name }, 1));
+            }
+        } else {
+            found.push((name, lengths[between(&kind, "[u32;", "]").trim()]));
+        }
+    }
+    found
 }
 
 /// The same in the header.

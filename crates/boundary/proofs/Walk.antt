@@ -45,7 +45,10 @@ use denote.Triple.Call.{calls-at}
 use denote.Triple.Clauses.{Clauses, ensured, lasts, closing}
 use denote.Triple.Walked.{says, Stays, stay-ref, gave-slice, stay-none-slice, walkOf, goes-ref, goes-gave-slice, goes-none-slice, Walks, ends-at, walked, walk-meets}
 use denote.Exit.{yes}
+use Rattle.record.specs.declared.Counts.{Counts}
 use Rattle.record.specs.declared.Record.{Record}
+use Rattle.record.proofs.Counts as N
+use Rattle.record.proofs.Counts.Laws as N′
 use Rattle.engine.specs.declared.Called.{Called}
 use Rattle.model.specs.declared.Scheme.{Scheme}
 use Rattle.model.proofs.Scheme as S
@@ -59,7 +62,9 @@ use Rattle.record.proofs.Record as T
 use Rattle.record.proofs.Record.Laws as T′
 use Rattle.engine.proofs.LentCall as D
 use Rattle.engine.proofs.LentCall.Laws as D′
+use Rattle.record.specs.Widths.{liveLength, runsLength, undoLength}
 use Rattle.boundary.proofs.Apart as Apart
+use Rattle.boundary.proofs.Apart.{liveAt, runsAt, undoAt}
 use Rattle.boundary.proofs.call_words as call-words
 use Rattle.boundary.proofs.call_words.Symbol.{name as #boundary·call-words}
 use Rattle.boundary.proofs.harukdalis_call as f
@@ -98,29 +103,24 @@ code d = record {
   params = 5;
   locals = map (λ (τ : Ty). local τ valueLocal) (
       word ∷ tyRef (named 0) mut (tyNamed (T.the-type .name, [])) ∷ slice (named 1) mut ∷ slice (named 2) imm ∷ slice (named 3) mut ∷ tyRef (named 4) mut word ∷ D′.mir ∷ S′.mir
-      ∷ word ∷ word ∷ word ∷ word ∷ tyRef erased mut (tyArray word 1792) ∷ tyRef erased mut (tyArray word 256) ∷ tyRef erased mut (tyArray word 368)
+      ∷ N′.mir ∷ tyRef erased mut (tyArray word liveLength) ∷ tyRef erased mut (tyArray word runsLength) ∷ tyRef erased mut (tyArray word undoLength)
       ∷ tyRef erased mut word ∷ slice erased mut ∷ tyRef erased mut word ∷ slice erased mut ∷ []
       );
   body =
       seq (assign (whole-of 7) (aggregate (int w8 d ∷ [])))
       (seq (assign (whole-of 8) (rvOpd (copy (of-record 0))))
-      (seq (assign (whole-of 9) (rvOpd (copy (of-record 1))))
-      (seq (assign (whole-of 10) (rvOpd (copy (of-record 2))))
-      (seq (assign (whole-of 11) (rvOpd (copy (of-record 3))))
-      (seq (assign (whole-of 12) (addrOf (of-record 4)))
-      (seq (assign (whole-of 13) (addrOf (of-record 5)))
-      (seq (assign (whole-of 14) (addrOf (of-record 6)))
-      (seq (assign (whole-of 15) (addrOf (pointed 2)))
-      (seq (assign (whole-of 16) (aggregate (all-of 15 ∷ counted 2 ∷ [])))
-      (seq (assign (whole-of 17) (addrOf (pointed 4)))
-      (seq (assign (whole-of 18) (aggregate (all-of 17 ∷ counted 4 ∷ [])))
-      (seq (call #boundary·call-words (map all-of (7 ∷ 8 ∷ 9 ∷ 10 ∷ 11 ∷ 12 ∷ 13 ∷ 14 ∷ 16 ∷ 3 ∷ 18 ∷ [])) (whole-of 6))
-      (seq (assign (of-record 1) (rvOpd (of-call 2)))
-      (seq (assign (of-record 2) (rvOpd (of-call 3)))
-      (seq (assign (of-record 3) (rvOpd (of-call 4)))
+      (seq (assign (whole-of 9) (addrOf (of-record 1)))
+      (seq (assign (whole-of 10) (addrOf (of-record 2)))
+      (seq (assign (whole-of 11) (addrOf (of-record 3)))
+      (seq (assign (whole-of 12) (addrOf (pointed 2)))
+      (seq (assign (whole-of 13) (aggregate (all-of 12 ∷ counted 2 ∷ [])))
+      (seq (assign (whole-of 14) (addrOf (pointed 4)))
+      (seq (assign (whole-of 15) (aggregate (all-of 14 ∷ counted 4 ∷ [])))
+      (seq (call #boundary·call-words (map all-of (7 ∷ 8 ∷ 9 ∷ 10 ∷ 11 ∷ 13 ∷ 3 ∷ 15 ∷ [])) (whole-of 6))
+      (seq (assign (of-record 0) (rvOpd (of-call 2)))
       (seq (assign (place 5 (deref word ∷ [])) (rvOpd (of-call 1)))
       (seq (assign (whole-of 0) (rvOpd (of-call 0)))
-      return)))))))))))))))));
+      return))))))))))));
 }
 
 -- a scheme in memory, and the promise of both by their scheme
@@ -165,6 +165,9 @@ module _ (σ : Scheme) (tag : ℕ) (small : Holds (ltb tag (2 ^ bits w8))) (type
     abbrev mach : Val
     mach = LL.val T.the-type T′.the-laws h
 
+    abbrev ends : Val
+    ends = LL.val N.the-type N′.the-laws (h .counts)
+
     abbrev Tokens : Item 𝓤
     Tokens = ‵ (flft κ₁ q₁) ⊛ (‵ (flft κ₂ q₂) ⊛ (‵ (flft κ₃ q₃) ⊛ ‵ ftrue))
 
@@ -174,25 +177,25 @@ module _ (σ : Scheme) (tag : ℕ) (small : Holds (ltb tag (2 ^ bits w8))) (type
     -- the rows, lent for lifetimes of their own under the names γ₆, γ₇, γ₈
     module _ (α₆ α₇ α₈ : ℕ) (γ₆ γ₇ γ₈ : GName) where
       abbrev live : RefT (List ℕ)
-      live = record { ptr = (b, o + 16); name = γ₆; now = h .live }
+      live = record { ptr = (b, o + liveAt); name = γ₆; now = h .live }
 
       abbrev runs : RefT (List ℕ)
-      runs = record { ptr = (b, o + 7184); name = γ₇; now = h .runs }
+      runs = record { ptr = (b, o + runsAt); name = γ₇; now = h .runs }
 
       abbrev undo : RefT (List ℕ)
-      undo = record { ptr = (b, o + 8208); name = γ₈; now = h .undo }
+      undo = record { ptr = (b, o + undoAt); name = γ₈; now = h .undo }
 
-      abbrev args : Scheme × (ℕ × (ℕ × (ℕ × (ℕ × (RefT (List ℕ) × (RefT (List ℕ) × (RefT (List ℕ) × (RefT (List ℕ) × (RefT (List ℕ) × (RefT (List ℕ) × Unit {0}))))))))))
-      args = (σ, (h .count, (h .largest, (h .uncommitted, (h .waiting, (live, (runs, (undo, (cs, (ev, (rm, tt)))))))))))
+      abbrev args : Scheme × (Counts × (RefT (List ℕ) × (RefT (List ℕ) × (RefT (List ℕ) × (RefT (List ℕ) × (RefT (List ℕ) × (RefT (List ℕ) × Unit {0})))))))
+      args = (σ, (h .counts, (live, (runs, (undo, (cs, (ev, (rm, tt))))))))
 
       abbrev LiveOwn : Fml
-      LiveOwn = MutRef (named 0) (α₆ ∷ []) (Array u32 1792) .own live (vptr b (o + 16) ∷ [])
+      LiveOwn = MutRef (named 0) (α₆ ∷ []) (Array u32 liveLength) .own live (vptr b (o + liveAt) ∷ [])
 
       abbrev RunsOwn : Fml
-      RunsOwn = MutRef (named 1) (α₇ ∷ []) (Array u32 256) .own runs (vptr b (o + 7184) ∷ [])
+      RunsOwn = MutRef (named 1) (α₇ ∷ []) (Array u32 runsLength) .own runs (vptr b (o + runsAt) ∷ [])
 
       abbrev UndoOwn : Fml
-      UndoOwn = MutRef (named 2) (α₈ ∷ []) (Array u32 368) .own undo (vptr b (o + 8208) ∷ [])
+      UndoOwn = MutRef (named 2) (α₈ ∷ []) (Array u32 undoLength) .own undo (vptr b (o + undoAt) ∷ [])
 
       -- what `call_words`'s triple binds outside
       abbrev to : CallWords 𝓤 H A at-mem run .Ghost
@@ -202,7 +205,7 @@ module _ (σ : Scheme) (tag : ℕ) (small : Holds (ltb tag (2 ^ bits w8))) (type
           (fullShare, (fullShare, (fullShare, (q₁, (q₂, (q₃, tt)))))),
           tt,
           args,
-          (tagged tag ∷ [], (vint w32 (h .count) ∷ [], (vint w32 (h .largest) ∷ [], (vint w32 (h .uncommitted) ∷ [], (vint w32 (h .waiting) ∷ [], (vptr b (o + 16) ∷ [], (vptr b (o + 7184) ∷ [], (vptr b (o + 8208) ∷ [], (vc ∷ [], (ve ∷ [], (vm ∷ [], tt))))))))))),
+          (tagged tag ∷ [], (ends ∷ [], (vptr b (o + liveAt) ∷ [], (vptr b (o + runsAt) ∷ [], (vptr b (o + undoAt) ∷ [], (vc ∷ [], (ve ∷ [], (vm ∷ [], tt)))))))),
         ),
         tt,
       )
@@ -212,14 +215,13 @@ module _ (σ : Scheme) (tag : ℕ) (small : Holds (ltb tag (2 ^ bits w8))) (type
           ‵ (flft (α₆ ∷ []) fullShare) ∷ ‵ (flft (α₇ ∷ []) fullShare) ∷ ‵ (flft (α₈ ∷ []) fullShare) ∷ ‵ (flft κ₁ q₁) ∷ ‵ (flft κ₂ q₂) ∷ ‵ (flft κ₃ q₃) ∷
           ‵ LiveOwn ∷ ‵ RunsOwn ∷ ‵ UndoOwn ∷ ‵ (MutSlice (named 1) κ₁ u32 .own cs (vc ∷ [])) ∷ ‵ Event-own ∷ ‵ (MutSlice (named 3) κ₃ u32 .own rm (vm ∷ [])) ∷ []
 
-      asked : h .count < 2 ^ 32 → h .largest < 2 ^ 32 → h .uncommitted < 2 ^ 32 → h .waiting < 2 ^ 32 → ent 𝓤 (⋆ 𝓤 H A Asked) (⋆ 𝓤 H A (raw (CallWords 𝓤 H A at-mem run .pre to) ∷ []))
-      asked fc fl fu fw =
+      asked : Is N.the-row (h .counts) (ends ∷ []) → ent 𝓤 (⋆ 𝓤 H A Asked) (⋆ 𝓤 H A (raw (CallWords 𝓤 H A at-mem run .pre to) ∷ []))
+      asked ic =
           qed W Asked ∵
           nothing ! $ move ! (6 ∷ 0 ∷ []) $ join ! $ move ! (5 ∷ 0 ∷ []) $ join ! $ move ! (4 ∷ 0 ∷ []) $ join ! $ move ! (3 ∷ 0 ∷ []) $ join ! $ move ! (2 ∷ 0 ∷ []) $ join ! $ move ! (1 ∷ 0 ∷ []) $ join ! $
           -- [the tokens; live; runs; undo; cells; event; room]
           nothing ! $ move ! (7 ∷ 0 ∷ []) $ fjoin ! $ move ! (6 ∷ 0 ∷ []) $ fjoin ! $ move ! (5 ∷ 0 ∷ []) $ fjoin ! $ move ! (4 ∷ 0 ∷ []) $ fjoin ! $ move ! (3 ∷ 0 ∷ []) $ fjoin ! $ move ! (2 ∷ 0 ∷ []) $ fjoin ! $
-          owned ! u32 (Is u32) (uint-makes 𝓤 H A W w32) (h .waiting) _ (refl, fw) $ fjoin ! $ owned ! u32 (Is u32) (uint-makes 𝓤 H A W w32) (h .uncommitted) _ (refl, fu) $ fjoin ! $
-          owned ! u32 (Is u32) (uint-makes 𝓤 H A W w32) (h .largest) _ (refl, fl) $ fjoin ! $ owned ! u32 (Is u32) (uint-makes 𝓤 H A W w32) (h .count) _ (refl, fc) $ fjoin ! $ owned ! S.the-row (Is S.the-row) (EL.makes S.the-type S′.the-plain 𝓤 H A) σ _ is-tag $ fjoin ! $
+          owned ! N.the-row (Is N.the-row) (LL.makes N.the-type N′.the-plain 𝓤 H A) (h .counts) _ ic $ fjoin ! $ owned ! S.the-row (Is S.the-row) (EL.makes S.the-type S′.the-plain 𝓤 H A) σ _ is-tag $ fjoin ! $
           move ! (1 ∷ 0 ∷ []) $ join ! $ frame ! $ done !
 
     -- what `call_words` says
@@ -246,18 +248,16 @@ module _ (σ : Scheme) (tag : ℕ) (small : Holds (ltb tag (2 ^ bits w8))) (type
 
     -- the record as the rows come back, and as the counts are stored then
     abbrev LastsOf : Type 0
-    LastsOf = Unit {0} × (Unit {0} × (Unit {0} × (Unit {0} × (Unit {0} × (List ℕ × (List ℕ × (List ℕ × (List ℕ × (Unit {0} × (List ℕ × Unit {0}))))))))))
+    LastsOf = Unit {0} × (Unit {0} × (List ℕ × (List ℕ × (List ℕ × (List ℕ × (Unit {0} × (List ℕ × Unit {0})))))))
 
     abbrev back : LastsOf → Record
-    back ws = recordBy (h .count) (h .largest) (h .uncommitted) (h .waiting) (ws .1 .1 .1 .1 .1 .0) (ws .1 .1 .1 .1 .1 .1 .0) (ws .1 .1 .1 .1 .1 .1 .1 .0)
+    back ws = recordBy (h .counts) (ws .1 .1 .0) (ws .1 .1 .1 .0) (ws .1 .1 .1 .1 .0)
 
     abbrev next : LentCall → LastsOf → Record
-    next d ws = recordBy (h .count) (d .largest) (d .uncommitted) (d .waiting) (ws .1 .1 .1 .1 .1 .0) (ws .1 .1 .1 .1 .1 .1 .0) (ws .1 .1 .1 .1 .1 .1 .1 .0)
+    next d ws = recordBy (d .counts) (ws .1 .1 .0) (ws .1 .1 .1 .0) (ws .1 .1 .1 .1 .0)
 
-    made : (d : LentCall) (ws : LastsOf) → Is T.the-row (back ws) (LL.vals T.the-type T′.the-laws (back ws)) → d .largest < 2 ^ 32 → d .uncommitted < 2 ^ 32 → d .waiting < 2 ^ 32 → Is T.the-row (next d ws) (LL.vals T.the-type T′.the-laws (next d ws))
-    made d ws was fl fu fw =
-        let o = LL.owed T.the-type T′.the-laws (back ws) (LL.vals T.the-type T′.the-laws (back ws)) was in
-        LL.owes T.the-type T′.the-laws (next d ws) (o .0, ((refl, fl), ((refl, fu), ((refl, fw), o .1 .1 .1 .1))))
+    made : (d : LentCall) (ws : LastsOf) → Is T.the-row (back ws) (LL.vals T.the-type T′.the-laws (back ws)) → Is N.the-row (d .counts) (LL.vals N.the-type N′.the-laws (d .counts)) → Is T.the-row (next d ws) (LL.vals T.the-type T′.the-laws (next d ws))
+    made d ws was ic = LL.owes T.the-type T′.the-laws (next d ws) (ic, LL.owed T.the-type T′.the-laws (back ws) (LL.vals T.the-type T′.the-laws (back ws)) was .1)
 
     module _ (C : Calls 𝓤 H) (Λ : Loops 𝓤 H) (fm : FmC 𝓤 H (W .laws) C) (known : Triple 𝓤 (C #boundary·call-words) (CallWords 𝓤 H A at-mem run)) where
       walk : Is (MutSlice (named 1) κ₁ u32) cs (vc ∷ []) → Is (ShrSlice (named 2) κ₂ u32) ev (ve ∷ []) → Is (MutSlice (named 3) κ₃ u32) rm (vm ∷ [])
@@ -274,73 +274,73 @@ module _ (σ : Scheme) (tag : ℕ) (small : Holds (ltb tag (2 ^ bits w8))) (type
           move ! (4 ∷ 5 ∷ 14 ∷ 2 ∷ 3 ∷ 9 ∷ 13 ∷ 12 ∷ 11 ∷ 8 ∷ 0 ∷ 7 ∷ 1 ∷ []) $
           -- [obs; borrow; token 0; obs 5; borrow 5; token 4; token 1; 2; 3; cells; event; room; event again; true; true]
           enter ! C Λ (code tag) (vptr b o ∷ vc ∷ ve ∷ vm ∷ vptr b₅ o₅ ∷ []) _ $
-          alloc1 ! (λ l₀. alloc1 ! (λ l₁. alloc1 ! (λ l₂. alloc1 ! (λ l₃. alloc1 ! (λ l₄. alloc1 ! (λ l₅. alloc1 ! (λ l₆. alloc1 ! (λ l₇. alloc1 ! (λ l₈. alloc1 ! (λ l₉. alloc1 ! (λ l₁₀. alloc1 ! (λ l₁₁. alloc1 ! (λ l₁₂. alloc1 ! (λ l₁₃. alloc1 ! (λ l₁₄. alloc1 ! (λ l₁₅. alloc1 ! (λ l₁₆. alloc1 ! (λ l₁₇. alloc1 ! (λ l₁₈. alloc0 ! $ params1 ! $
-          pass1 ! (init ! 34 refl (tt, tt)) $ pass1 ! (init ! 32 refl (mut-slice-lawful 𝓤 H A W (named 1) κ₁ u32 .typed cs (vc ∷ []) pc .0)) $ pass1 ! (init ! 30 refl (shr-slice-lawful 𝓤 H A W (named 2) κ₂ u32 .typed ev (ve ∷ []) pe .0)) $
-          pass1 ! (init ! 28 refl (mut-slice-lawful 𝓤 H A W (named 3) κ₃ u32 .typed rm (vm ∷ []) pm .0)) $ pass1 ! (init ! 26 refl (tt, tt)) $ pass0 ! $
-          -- [_18; …; _17; …; _16; …; and so on; _1 at 34; …; room for _0 at 36; …; what stood before]
-          move ! (38 ∷ 39 ∷ 40 ∷ []) $ opens ! tt T.the-row {h = h} b o (λ vs. spelt ! T.the-row (Is T.the-row) (shows 𝓤 H A T.the-row) (LL.vals T.the-type T′.the-laws) (LL.tells T.the-type T′.the-laws) fullShare h vs b o $
+          alloc1 ! (λ l₀. alloc1 ! (λ l₁. alloc1 ! (λ l₂. alloc1 ! (λ l₃. alloc1 ! (λ l₄. alloc1 ! (λ l₅. alloc1 ! (λ l₆. alloc1 ! (λ l₇. alloc1 ! (λ l₈. alloc1 ! (λ l₉. alloc1 ! (λ l₁₀. alloc1 ! (λ l₁₁. alloc1 ! (λ l₁₂. alloc1 ! (λ l₁₃. alloc1 ! (λ l₁₄. alloc1 ! (λ l₁₅. alloc0 ! $ params1 ! $
+          pass1 ! (init ! 28 refl (tt, tt)) $ pass1 ! (init ! 26 refl (mut-slice-lawful 𝓤 H A W (named 1) κ₁ u32 .typed cs (vc ∷ []) pc .0)) $ pass1 ! (init ! 24 refl (shr-slice-lawful 𝓤 H A W (named 2) κ₂ u32 .typed ev (ve ∷ []) pe .0)) $
+          pass1 ! (init ! 22 refl (mut-slice-lawful 𝓤 H A W (named 3) κ₃ u32 .typed rm (vm ∷ []) pm .0)) $ pass1 ! (init ! 20 refl (tt, tt)) $ pass0 ! $
+          -- [_15; …; _14; …; _13; …; and so on; _1 at 28; …; room for _0 at 30; …; what stood before]
+          move ! (32 ∷ 33 ∷ 34 ∷ []) $ opens ! tt T.the-row {h = h} b o (λ vs. spelt ! T.the-row (Is T.the-row) (shows 𝓤 H A T.the-row) (LL.vals T.the-type T′.the-laws) (LL.tells T.the-type T′.the-laws) fullShare h vs b o $
           move ! (1 ∷ []) $ peeks ! T.the-row (Is T.the-row) (shows 𝓤 H A T.the-row) h (mach ∷ []) (λ g. move ! (1 ∷ 0 ∷ []) $
-          -- [the record's cell; what it owns; the open borrow; obs; auth; _18 at 5; …; _1 at 39; room for _0 at 41; obs 5 at 43; borrow 5; token 4; token 1; 2; 3; cells; event; room; event again; …]
-          assigns ! (agg ! (and-then ! (lit ! small) (no-more !))) (from ! (stop !)) (init ! 27 refl typed) $
-          assigns ! (of-opd ! (load ! (from ! (hop ! (look ! 39 refl) (fld ! refl (stop !)))) (look-in ! 0 (sub ! 0 refl (whole !))))) (from ! (stop !)) (init ! 25 refl (tt, record { fits = LL.owed T.the-type T′.the-laws h (mach ∷ []) g .0 .1 })) $
-          assigns ! (of-opd ! (load ! (from ! (hop ! (look ! 39 refl) (fld ! refl (stop !)))) (look-in ! 0 (sub ! 1 refl (whole !))))) (from ! (stop !)) (init ! 23 refl (tt, record { fits = LL.owed T.the-type T′.the-laws h (mach ∷ []) g .1 .0 .1 })) $
-          assigns ! (of-opd ! (load ! (from ! (hop ! (look ! 39 refl) (fld ! refl (stop !)))) (look-in ! 0 (sub ! 2 refl (whole !))))) (from ! (stop !)) (init ! 21 refl (tt, record { fits = LL.owed T.the-type T′.the-laws h (mach ∷ []) g .1 .1 .0 .1 })) $
-          assigns ! (of-opd ! (load ! (from ! (hop ! (look ! 39 refl) (fld ! refl (stop !)))) (look-in ! 0 (sub ! 3 refl (whole !))))) (from ! (stop !)) (init ! 19 refl (tt, record { fits = LL.owed T.the-type T′.the-laws h (mach ∷ []) g .1 .1 .1 .0 .1 })) $
-          assigns ! (addr ! (from ! (hop ! (look ! 39 refl) (fld ! refl (stop !))))) (from ! (stop !)) (init ! 17 refl (tt, tt)) $
-          assigns ! (addr ! (from ! (hop ! (look ! 39 refl) (fld ! refl (stop !))))) (from ! (stop !)) (init ! 15 refl (tt, tt)) $
-          assigns ! (addr ! (from ! (hop ! (look ! 39 refl) (fld ! refl (stop !))))) (from ! (stop !)) (init ! 13 refl (tt, tt)) $
-          assigns ! (addr ! (from ! (fld ! refl (hop ! (look-in ! 37 (sub ! 0 refl (whole !))) (stop !))))) (from ! (stop !)) (init ! 11 refl (tt, tt)) $
-          assigns ! (agg ! (and-then ! (load ! (from ! (stop !)) (look ! 11 refl)) (and-then ! (load ! (from ! (fld ! refl (stop !))) (look-in ! 37 (sub ! 1 refl (whole !)))) (no-more !)))) (from ! (stop !)) (init ! 9 refl (tt, (tt, (record { fits = pc .0 .1 .0 }, tt)))) $
-          assigns ! (addr ! (from ! (fld ! refl (hop ! (look-in ! 33 (sub ! 0 refl (whole !))) (stop !))))) (from ! (stop !)) (init ! 7 refl (tt, tt)) $
-          assigns ! (agg ! (and-then ! (load ! (from ! (stop !)) (look ! 7 refl)) (and-then ! (load ! (from ! (fld ! refl (stop !))) (look-in ! 33 (sub ! 1 refl (whole !)))) (no-more !)))) (from ! (stop !)) (init ! 5 refl (tt, (tt, (record { fits = pm .0 .1 .0 }, tt)))) $
+          -- [the record's cell; what it owns; the open borrow; obs; auth; _15 at 5; …; _1 at 33; room for _0 at 35; obs 5 at 37; borrow 5; token 4; token 1; 2; 3; cells; event; room; event again; …]
+          assigns ! (agg ! (and-then ! (lit ! small) (no-more !))) (from ! (stop !)) (init ! 21 refl typed) $
+          -- what lies behind a reference stands at its raw type: as the struct that it is, while its counts are read
+          use1 W (‵ (fat fullShare T′.mir b o mach)) (W .laws .raw-at fullShare T′.mir b o mach) $
+          assigns ! (of-opd ! (load ! (from ! (hop ! (look ! 33 refl) (fld ! refl (stop !)))) (look-in ! 0 (sub ! 0 refl (whole !))))) (from ! (stop !)) (init ! 19 refl (LL.lawful N.the-type N′.the-laws 𝓤 H A W .typed (h .counts) _ (LL.owed T.the-type T′.the-laws h (mach ∷ []) g .0) .0)) $
+          assigns ! (addr ! (from ! (hop ! (look ! 33 refl) (fld ! refl (stop !))))) (from ! (stop !)) (init ! 17 refl (tt, tt)) $
+          assigns ! (addr ! (from ! (hop ! (look ! 33 refl) (fld ! refl (stop !))))) (from ! (stop !)) (init ! 15 refl (tt, tt)) $
+          assigns ! (addr ! (from ! (hop ! (look ! 33 refl) (fld ! refl (stop !))))) (from ! (stop !)) (init ! 13 refl (tt, tt)) $
+          assigns ! (addr ! (from ! (fld ! refl (hop ! (look-in ! 31 (sub ! 0 refl (whole !))) (stop !))))) (from ! (stop !)) (init ! 11 refl (tt, tt)) $
+          assigns ! (agg ! (and-then ! (load ! (from ! (stop !)) (look ! 11 refl)) (and-then ! (load ! (from ! (fld ! refl (stop !))) (look-in ! 31 (sub ! 1 refl (whole !)))) (no-more !)))) (from ! (stop !)) (init ! 9 refl (tt, (tt, (record { fits = pc .0 .1 .0 }, tt)))) $
+          assigns ! (addr ! (from ! (fld ! refl (hop ! (look-in ! 27 (sub ! 0 refl (whole !))) (stop !))))) (from ! (stop !)) (init ! 7 refl (tt, tt)) $
+          assigns ! (agg ! (and-then ! (load ! (from ! (stop !)) (look ! 7 refl)) (and-then ! (load ! (from ! (fld ! refl (stop !))) (look-in ! 27 (sub ! 1 refl (whole !)))) (no-more !)))) (from ! (stop !)) (init ! 5 refl (tt, (tt, (record { fits = pm .0 .1 .0 }, tt)))) $
+          use1 W (‵ (cellAt fullShare (T.the-row .mir) (mach ∷ []) b o)) (W .laws .at-raw fullShare T′.mir b o mach) $
           -- the record is taken apart, and its rows are lent
           cut (‵ (cellAt fullShare (T.the-row .mir) (mach ∷ []) b o) ∷ ‵ (T.the-row .own h (mach ∷ [])) ∷ []) (Apart.Parts b o 𝓤 H A W h) _ (Apart.apart b o 𝓤 H A W h (mach ∷ [])) $
-          -- [live; runs; undo; the numbers; the way back; the open borrow; obs; auth; _18 at 8; …]
+          -- [live; runs; undo; the counts; the way back; the open borrow; obs; auth; _15 at 8; …]
           lft-new ! tt (λ α₆. lft-new ! tt (λ α₇. lft-new ! tt (λ α₈.
-          move ! (3 ∷ []) $ use1 W (later (some (λ (γ : GName). ‵ (MutRef (named 0) (α₆ ∷ []) (Array u32 1792) .own (record { ptr = (b, o + 16); name = γ; now = h .live }) (vptr b (o + 16) ∷ [])) ⊛ ‵ (flent (α₆ ∷ []) (Body (mem (Array u32 1792)) b (o + 16) γ))))) (lends-ref 𝓤 H A W (Array u32 1792) (named 0) (α₆ ∷ []) (h .live) b (o + 16)) $ await ! tt $ pick ! (λ γ₆. split ! $
-          move ! (5 ∷ []) $ use1 W (later (some (λ (γ : GName). ‵ (MutRef (named 1) (α₇ ∷ []) (Array u32 256) .own (record { ptr = (b, o + 7184); name = γ; now = h .runs }) (vptr b (o + 7184) ∷ [])) ⊛ ‵ (flent (α₇ ∷ []) (Body (mem (Array u32 256)) b (o + 7184) γ))))) (lends-ref 𝓤 H A W (Array u32 256) (named 1) (α₇ ∷ []) (h .runs) b (o + 7184)) $ await ! tt $ pick ! (λ γ₇. split ! $
-          move ! (7 ∷ []) $ use1 W (later (some (λ (γ : GName). ‵ (MutRef (named 2) (α₈ ∷ []) (Array u32 368) .own (record { ptr = (b, o + 8208); name = γ; now = h .undo }) (vptr b (o + 8208) ∷ [])) ⊛ ‵ (flent (α₈ ∷ []) (Body (mem (Array u32 368)) b (o + 8208) γ))))) (lends-ref 𝓤 H A W (Array u32 368) (named 2) (α₈ ∷ []) (h .undo) b (o + 8208)) $ await ! tt $ pick ! (λ γ₈. split ! $
-          -- [undo lent; its lender's part; runs; its; live; its; token 8; 7; 6; the numbers; the way back; the open borrow; obs; auth; _18 at 14; …; _1 at 48; room for _0 at 50; obs 5 at 52; borrow 5; token 4; token 1; 2; 3; cells; event; room; event again; …]
-          move ! (8 ∷ 7 ∷ 6 ∷ 55 ∷ 56 ∷ 57 ∷ 4 ∷ 2 ∷ 0 ∷ 58 ∷ 59 ∷ 60 ∷ []) $
-          cut (Asked α₆ α₇ α₈ γ₆ γ₇ γ₈) (raw (CallWords 𝓤 H A at-mem run .pre (to α₆ α₇ α₈ γ₆ γ₇ γ₈)) ∷ []) _ (asked α₆ α₇ α₈ γ₆ γ₇ γ₈ (LL.owed T.the-type T′.the-laws h (mach ∷ []) g .0 .1) (LL.owed T.the-type T′.the-laws h (mach ∷ []) g .1 .0 .1) (LL.owed T.the-type T′.the-laws h (mach ∷ []) g .1 .1 .0 .1) (LL.owed T.the-type T′.the-laws h (mach ∷ []) g .1 .1 .1 .0 .1)) $
-          -- [what `call_words` asks; undo's lender's part; runs'; live's; the numbers; the way back; the open borrow; obs; auth; _18 at 9; …; _1 at 43; room for _0 at 45; obs 5 at 47; borrow 5; token 4; event again; …]
-          calls-at ! fm (CallWords 𝓤 H A at-mem run) known (to α₆ α₇ α₈ γ₆ γ₇ γ₈) (and-then ! (load ! (from ! (stop !)) (look ! 31 refl)) (and-then ! (load ! (from ! (stop !)) (look ! 29 refl)) (and-then ! (load ! (from ! (stop !)) (look ! 27 refl)) (and-then ! (load ! (from ! (stop !)) (look ! 25 refl)) (and-then ! (load ! (from ! (stop !)) (look ! 23 refl)) (and-then ! (load ! (from ! (stop !)) (look ! 21 refl)) (and-then ! (load ! (from ! (stop !)) (look ! 19 refl)) (and-then ! (load ! (from ! (stop !)) (look ! 17 refl)) (and-then ! (load ! (from ! (stop !)) (look ! 13 refl)) (and-then ! (load ! (from ! (stop !)) (look ! 39 refl)) (and-then ! (load ! (from ! (stop !)) (look ! 9 refl)) (no-more !)))))))))))) (λ u.
+          move ! (3 ∷ []) $ use1 W (later (some (λ (γ : GName). ‵ (MutRef (named 0) (α₆ ∷ []) (Array u32 liveLength) .own (record { ptr = (b, o + liveAt); name = γ; now = h .live }) (vptr b (o + liveAt) ∷ [])) ⊛ ‵ (flent (α₆ ∷ []) (Body (mem (Array u32 liveLength)) b (o + liveAt) γ))))) (lends-ref 𝓤 H A W (Array u32 liveLength) (named 0) (α₆ ∷ []) (h .live) b (o + liveAt)) $ await ! tt $ pick ! (λ γ₆. split ! $
+          move ! (5 ∷ []) $ use1 W (later (some (λ (γ : GName). ‵ (MutRef (named 1) (α₇ ∷ []) (Array u32 runsLength) .own (record { ptr = (b, o + runsAt); name = γ; now = h .runs }) (vptr b (o + runsAt) ∷ [])) ⊛ ‵ (flent (α₇ ∷ []) (Body (mem (Array u32 runsLength)) b (o + runsAt) γ))))) (lends-ref 𝓤 H A W (Array u32 runsLength) (named 1) (α₇ ∷ []) (h .runs) b (o + runsAt)) $ await ! tt $ pick ! (λ γ₇. split ! $
+          move ! (7 ∷ []) $ use1 W (later (some (λ (γ : GName). ‵ (MutRef (named 2) (α₈ ∷ []) (Array u32 undoLength) .own (record { ptr = (b, o + undoAt); name = γ; now = h .undo }) (vptr b (o + undoAt) ∷ [])) ⊛ ‵ (flent (α₈ ∷ []) (Body (mem (Array u32 undoLength)) b (o + undoAt) γ))))) (lends-ref 𝓤 H A W (Array u32 undoLength) (named 2) (α₈ ∷ []) (h .undo) b (o + undoAt)) $ await ! tt $ pick ! (λ γ₈. split ! $
+          -- [undo lent; its lender's part; runs; its; live; its; token 8; 7; 6; the counts; the way back; the open borrow; obs; auth; _15 at 14; …; _1 at 42; room for _0 at 44; obs 5 at 46; borrow 5; token 4; token 1; 2; 3; cells; event; room; event again; …]
+          move ! (8 ∷ 7 ∷ 6 ∷ 49 ∷ 50 ∷ 51 ∷ 4 ∷ 2 ∷ 0 ∷ 52 ∷ 53 ∷ 54 ∷ []) $
+          cut (Asked α₆ α₇ α₈ γ₆ γ₇ γ₈) (raw (CallWords 𝓤 H A at-mem run .pre (to α₆ α₇ α₈ γ₆ γ₇ γ₈)) ∷ []) _ (asked α₆ α₇ α₈ γ₆ γ₇ γ₈ (LL.owed T.the-type T′.the-laws h (mach ∷ []) g .0)) $
+          -- [what `call_words` asks; undo's lender's part; runs'; live's; the counts; the way back; the open borrow; obs; auth; _15 at 9; …; _1 at 37; room for _0 at 39; obs 5 at 41; borrow 5; token 4; event again; …]
+          calls-at ! fm (CallWords 𝓤 H A at-mem run) known (to α₆ α₇ α₈ γ₆ γ₇ γ₈) (and-then ! (load ! (from ! (stop !)) (look ! 25 refl)) (and-then ! (load ! (from ! (stop !)) (look ! 23 refl)) (and-then ! (load ! (from ! (stop !)) (look ! 21 refl)) (and-then ! (load ! (from ! (stop !)) (look ! 19 refl)) (and-then ! (load ! (from ! (stop !)) (look ! 17 refl)) (and-then ! (load ! (from ! (stop !)) (look ! 13 refl)) (and-then ! (load ! (from ! (stop !)) (look ! 33 refl)) (and-then ! (load ! (from ! (stop !)) (look ! 9 refl)) (no-more !))))))))) (λ u.
           use1 W (later (some (λ (d : LentCall). ((‵ (flft (α₆ ∷ []) fullShare) ⊛ (‵ (flft (α₇ ∷ []) fullShare) ⊛ (‵ (flft (α₈ ∷ []) fullShare) ⊛ Tokens))) ⊛ ‵ (D.the-row .own d (u ∷ []))) ⊛ raw (ensured 𝓤 H A call-words.ended (call-words.clauses 𝓤 H A at-mem run) (α₆ ∷ [], (α₇ ∷ [], (α₈ ∷ [], (κ₁, (κ₂, (κ₃, tt)))))) (args α₆ α₇ α₈ γ₆ γ₇ γ₈) tt d)))) (id⊢ 𝓤 _) $ await ! tt $ pick ! (λ d.
           -- what `call_words` ensures, at some last rows, cells and room
-          split ! $ move ! (1 ∷ []) $ use1 W (some (λ (ws : LastsOf). ‵ (lasts call-words.ended (α₆ ∷ [], (α₇ ∷ [], (α₈ ∷ [], (κ₁, (κ₂, (κ₃, tt)))))) (args α₆ α₇ α₈ γ₆ γ₇ γ₈) ws) ⊛ raw (fact 𝓤 (Said (lentCall (h .count) d (ws .1 .1 .1 .1 .1 .0) (ws .1 .1 .1 .1 .1 .1 .0) (ws .1 .1 .1 .1 .1 .1 .1 .0)) (ws .1 .1 .1 .1 .1 .1 .1 .1 .0) (ws .1 .1 .1 .1 .1 .1 .1 .1 .1 .1 .0))))) (id⊢ 𝓤 _) $ pick ! (λ ws.
-          split ! $ move ! (1 ∷ []) $ heard ! (Said (lentCall (h .count) d (ws .1 .1 .1 .1 .1 .0) (ws .1 .1 .1 .1 .1 .1 .0) (ws .1 .1 .1 .1 .1 .1 .1 .0)) (ws .1 .1 .1 .1 .1 .1 .1 .1 .0) (ws .1 .1 .1 .1 .1 .1 .1 .1 .1 .1 .0)) (λ e.
-          fsplit ! $ move ! (1 ∷ []) $ fsplit ! $ move ! (1 ∷ []) $ fsplit ! $ move ! (1 ∷ []) $ fsplit ! $ move ! (1 ∷ []) $ fsplit ! $ move ! (1 ∷ []) $ fsplit ! $ move ! (1 ∷ []) $ fsplit ! $ move ! (1 ∷ []) $ fsplit ! $ move ! (1 ∷ []) $ fsplit ! $ fsplit ! $ move ! (1 ∷ []) $ feqL ! (λ ly.
+          split ! $ move ! (1 ∷ []) $ use1 W (some (λ (ws : LastsOf). ‵ (lasts call-words.ended (α₆ ∷ [], (α₇ ∷ [], (α₈ ∷ [], (κ₁, (κ₂, (κ₃, tt)))))) (args α₆ α₇ α₈ γ₆ γ₇ γ₈) ws) ⊛ raw (fact 𝓤 (Said (lentCall d (ws .1 .1 .0) (ws .1 .1 .1 .0) (ws .1 .1 .1 .1 .0)) (ws .1 .1 .1 .1 .1 .0) (ws .1 .1 .1 .1 .1 .1 .1 .0))))) (id⊢ 𝓤 _) $ pick ! (λ ws.
+          split ! $ move ! (1 ∷ []) $ heard ! (Said (lentCall d (ws .1 .1 .0) (ws .1 .1 .1 .0) (ws .1 .1 .1 .1 .0)) (ws .1 .1 .1 .1 .1 .0) (ws .1 .1 .1 .1 .1 .1 .1 .0)) (λ e.
+          fsplit ! $ move ! (1 ∷ []) $ fsplit ! $ move ! (1 ∷ []) $ fsplit ! $ move ! (1 ∷ []) $ fsplit ! $ move ! (1 ∷ []) $ fsplit ! $ move ! (1 ∷ []) $ fsplit ! $ fsplit ! $ move ! (1 ∷ []) $ feqL ! (λ ly.
           move ! (1 ∷ []) $ fsplit ! $ move ! (1 ∷ []) $ fsplit ! $ fsplit ! $ move ! (1 ∷ []) $ feqL ! (λ lz.
-          -- [room's last; …; …; cells' last; undo's; runs'; live's; …; …; …; …; the tokens and the result; …]
-          move ! (1 ∷ []) $ drop ! $ move ! (1 ∷ []) $ drop ! $ move ! (5 ∷ []) $ drop ! $ move ! (5 ∷ []) $ drop ! $ move ! (5 ∷ []) $ drop ! $ move ! (5 ∷ []) $ drop ! $ move ! (5 ∷ []) $ drop ! $
+          -- [room's last; …; …; cells' last; undo's; runs'; live's; …; …; the tokens and the result; …]
+          move ! (1 ∷ []) $ drop ! $ move ! (1 ∷ []) $ drop ! $ move ! (5 ∷ []) $ drop ! $ move ! (5 ∷ []) $ drop ! $
           move ! (5 ∷ []) $ split ! $ move ! (1 ∷ []) $ peeks ! D.the-row (Is D.the-row) (shows 𝓤 H A D.the-row) d (u ∷ []) (λ is.
-          -- [the result; the tokens; room's last; cells' last; undo's last; runs' last; live's last; undo's lender's part; runs'; live's; the numbers; the way back; the open borrow; obs; auth; _18 at 15; …; _6 at 39; …]
-          land ! (from ! (stop !)) (init ! 39 refl (LL.lawful D.the-type D′.the-laws 𝓤 H A W .typed d _ is .0)) $
-          rewrite ! 39 (λ (us : List Val). ‵ (fat fullShare D′.mir l₆ 0 (only us))) (LL.tells D.the-type D′.the-laws d (u ∷ []) is) refl $ drop ! $
+          -- [the result; the tokens; room's last; cells' last; undo's last; runs' last; live's last; undo's lender's part; runs'; live's; the counts; the way back; the open borrow; obs; auth; _15 at 15; …; _6 at 33; …]
+          land ! (from ! (stop !)) (init ! 33 refl (LL.lawful D.the-type D′.the-laws 𝓤 H A W .typed d _ is .0)) $
+          rewrite ! 33 (λ (us : List Val). ‵ (fat fullShare D′.mir l₆ 0 (only us))) (LL.tells D.the-type D′.the-laws d (u ∷ []) is) refl $ drop ! $
           -- the rows come back, and the record is put together
-          split ! $ lft-end ! tt $ move ! (0 ∷ 9 ∷ 6 ∷ []) $ use3 W (later (‵ (Apart.Live b o (ws .1 .1 .1 .1 .1 .0)))) (ref-back 𝓤 H A W (Array u32 1792) (α₆ ∷ []) γ₆ (ws .1 .1 .1 .1 .1 .0) b (o + 16)) $ await ! tt $
-          move ! (1 ∷ []) $ split ! $ lft-end ! tt $ move ! (0 ∷ 8 ∷ 6 ∷ []) $ use3 W (later (‵ (Apart.Runs b o (ws .1 .1 .1 .1 .1 .1 .0)))) (ref-back 𝓤 H A W (Array u32 256) (α₇ ∷ []) γ₇ (ws .1 .1 .1 .1 .1 .1 .0) b (o + 7184)) $ await ! tt $
-          move ! (1 ∷ []) $ split ! $ lft-end ! tt $ move ! (0 ∷ 7 ∷ 6 ∷ []) $ use3 W (later (‵ (Apart.Undo b o (ws .1 .1 .1 .1 .1 .1 .1 .0)))) (ref-back 𝓤 H A W (Array u32 368) (α₈ ∷ []) γ₈ (ws .1 .1 .1 .1 .1 .1 .1 .0) b (o + 8208)) $ await ! tt $
-          -- [undo; the tokens; runs; live; room's last; cells' last; the numbers; the way back; the open borrow; obs; auth; _18 at 11; …]
+          split ! $ lft-end ! tt $ move ! (0 ∷ 9 ∷ 6 ∷ []) $ use3 W (later (‵ (Apart.Live b o (ws .1 .1 .0)))) (ref-back 𝓤 H A W (Array u32 liveLength) (α₆ ∷ []) γ₆ (ws .1 .1 .0) b (o + liveAt)) $ await ! tt $
+          move ! (1 ∷ []) $ split ! $ lft-end ! tt $ move ! (0 ∷ 8 ∷ 6 ∷ []) $ use3 W (later (‵ (Apart.Runs b o (ws .1 .1 .1 .0)))) (ref-back 𝓤 H A W (Array u32 runsLength) (α₇ ∷ []) γ₇ (ws .1 .1 .1 .0) b (o + runsAt)) $ await ! tt $
+          move ! (1 ∷ []) $ split ! $ lft-end ! tt $ move ! (0 ∷ 7 ∷ 6 ∷ []) $ use3 W (later (‵ (Apart.Undo b o (ws .1 .1 .1 .1 .0)))) (ref-back 𝓤 H A W (Array u32 undoLength) (α₈ ∷ []) γ₈ (ws .1 .1 .1 .1 .0) b (o + undoAt)) $ await ! tt $
+          -- [undo; the tokens; runs; live; room's last; cells' last; the counts; the way back; the open borrow; obs; auth; _15 at 11; …]
           move ! (3 ∷ 2 ∷ 0 ∷ 6 ∷ 7 ∷ []) $
           cut (Apart.Parts b o 𝓤 H A W (back ws)) (some (λ (vs′ : List Val). ‵ (cellAt fullShare (T.the-row .mir) vs′ b o) ⊛ ‵ (T.the-row .own (back ws) vs′)) ∷ []) _ (Apart.together b o 𝓤 H A W (back ws)) $ pick ! (λ vs′. split ! $
           spelt ! T.the-row (Is T.the-row) (shows 𝓤 H A T.the-row) (LL.vals T.the-type T′.the-laws) (LL.tells T.the-type T′.the-laws) fullShare (back ws) vs′ b o $
           move ! (1 ∷ []) $ peeks ! T.the-row (Is T.the-row) (shows 𝓤 H A T.the-row) (back ws) (LL.vals T.the-type T′.the-laws (back ws)) (λ g₁. move ! (1 ∷ 0 ∷ []) $
-          -- [the record's cell; what it owns; the tokens; room's last; cells' last; the open borrow; obs; auth; _18 at 8; …; _6 at 32; …; _1 at 42; room for _0 at 44; obs 5 at 46; borrow 5; token 4; event again; …]
-          assigns ! (of-opd ! (load ! (from ! (fld ! refl (stop !))) (look-in ! 32 (sub ! 2 refl (whole !))))) (from ! (hop ! (look ! 42 refl) (fld ! refl (stop !)))) (store-in ! 0 (sub ! 1 refl (whole !)) (tt, record { fits = LL.owed D.the-type D′.the-laws d (u ∷ []) is .1 .1 .0 .1 })) $
-          assigns ! (of-opd ! (load ! (from ! (fld ! refl (stop !))) (look-in ! 32 (sub ! 3 refl (whole !))))) (from ! (hop ! (look ! 42 refl) (fld ! refl (stop !)))) (store-in ! 0 (sub ! 2 refl (whole !)) (tt, record { fits = LL.owed D.the-type D′.the-laws d (u ∷ []) is .1 .1 .1 .0 .1 })) $
-          assigns ! (of-opd ! (load ! (from ! (fld ! refl (stop !))) (look-in ! 32 (sub ! 4 refl (whole !))))) (from ! (hop ! (look ! 42 refl) (fld ! refl (stop !)))) (store-in ! 0 (sub ! 3 refl (whole !)) (tt, record { fits = LL.owed D.the-type D′.the-laws d (u ∷ []) is .1 .1 .1 .1 .0 .1 })) $
-          move ! (1 ∷ []) $ drop ! $ owned ! T.the-row (Is T.the-row) ((LL.makes T.the-type T′.the-plain) 𝓤 H A) (next d ws) _ (made d ws g₁ (LL.owed D.the-type D′.the-laws d (u ∷ []) is .1 .1 .0 .1) (LL.owed D.the-type D′.the-laws d (u ∷ []) is .1 .1 .1 .0 .1) (LL.owed D.the-type D′.the-laws d (u ∷ []) is .1 .1 .1 .1 .0 .1)) $
+          -- [the record's cell; what it owns; the tokens; room's last; cells' last; the open borrow; obs; auth; _15 at 8; …; _6 at 26; …; _1 at 36; room for _0 at 38; obs 5 at 40; borrow 5; token 4; event again; …]
+          use1 W (‵ (fat fullShare T′.mir b o (LL.val T.the-type T′.the-laws (back ws)))) (W .laws .raw-at fullShare T′.mir b o (LL.val T.the-type T′.the-laws (back ws))) $
+          assigns ! (of-opd ! (load ! (from ! (fld ! refl (stop !))) (look-in ! 26 (sub ! 2 refl (whole !))))) (from ! (hop ! (look ! 36 refl) (fld ! refl (stop !)))) (store-in ! 0 (sub ! 0 refl (whole !)) (LL.lawful N.the-type N′.the-laws 𝓤 H A W .typed (d .counts) _ (LL.owed D.the-type D′.the-laws d (u ∷ []) is .1 .1 .0) .0)) $
+          use1 W (‵ (cellAt fullShare (T.the-row .mir) (LL.vals T.the-type T′.the-laws (next d ws)) b o)) (W .laws .at-raw fullShare T′.mir b o (LL.val T.the-type T′.the-laws (next d ws))) $
+          move ! (1 ∷ []) $ drop ! $ owned ! T.the-row (Is T.the-row) ((LL.makes T.the-type T′.the-plain) 𝓤 H A) (next d ws) _ (made d ws g₁ (LL.owed D.the-type D′.the-laws d (u ∷ []) is .1 .1 .0)) $
           move ! (1 ∷ 0 ∷ 5 ∷ 6 ∷ 7 ∷ []) $ closes ! tt T.the-row (next d ws) (LL.vals T.the-type T′.the-laws (next d ws)) b o $
-          -- [obs; borrow; token 0; the tokens; room's last; cells' last; _18 at 6; …; _1 at 40; room for _0 at 42; obs 5 at 44; borrow 5; token 4; event again; …]
-          move ! (44 ∷ 45 ∷ 46 ∷ []) $ opens ! tt u32 {h = k} b₅ o₅ (λ vs₅. spelt ! u32 (Is u32) (shows 𝓤 H A u32) (uint-vals w32) (uint-tells w32) fullShare k vs₅ b₅ o₅ $
-          assigns ! (of-opd ! (load ! (from ! (fld ! refl (stop !))) (look-in ! 35 (sub ! 1 refl (whole !))))) (from ! (hop ! (look ! 37 refl) (stop !))) (store-raw ! 0 refl (tt, record { fits = LL.owed D.the-type D′.the-laws d (u ∷ []) is .1 .0 .1 })) $
+          -- [obs; borrow; token 0; the tokens; room's last; cells' last; _15 at 6; …; _1 at 34; room for _0 at 36; obs 5 at 38; borrow 5; token 4; event again; …]
+          move ! (38 ∷ 39 ∷ 40 ∷ []) $ opens ! tt u32 {h = k} b₅ o₅ (λ vs₅. spelt ! u32 (Is u32) (shows 𝓤 H A u32) (uint-vals w32) (uint-tells w32) fullShare k vs₅ b₅ o₅ $
+          assigns ! (of-opd ! (load ! (from ! (fld ! refl (stop !))) (look-in ! 29 (sub ! 1 refl (whole !))))) (from ! (hop ! (look ! 31 refl) (stop !))) (store-raw ! 0 refl (tt, record { fits = LL.owed D.the-type D′.the-laws d (u ∷ []) is .1 .0 .1 })) $
           move ! (1 ∷ []) $ drop ! $ owned ! u32 (Is u32) (uint-makes 𝓤 H A W w32) (d .answers) _ (refl, LL.owed D.the-type D′.the-laws d (u ∷ []) is .1 .0 .1) $ move ! (1 ∷ 0 ∷ []) $ closes ! tt u32 (d .answers) (uint-vals w32 (d .answers)) b₅ o₅ $
-          -- [obs 5; borrow 5; token 4; obs; borrow; token 0; the tokens; room's last; cells' last; _18 at 9; …; _6 at 33; …; room for _0 at 45; event again; …]
-          assigns ! (of-opd ! (load ! (from ! (fld ! refl (stop !))) (look-in ! 33 (sub ! 0 refl (whole !))))) (from ! (stop !)) (init ! 45 refl (tt, record { fits = LL.owed D.the-type D′.the-laws d (u ∷ []) is .0 .1 })) $
-          returns ! (look ! 45 refl) $ forget ! 9 refl $ forget ! 11 refl $ forget ! 13 refl $ forget ! 15 refl $ forget ! 17 refl $ forget ! 19 refl $ forget ! 21 refl $ forget ! 23 refl $ forget ! 25 refl $ forget ! 27 refl $ forget ! 29 refl $ forget ! 31 refl $ forget ! 33 refl $ forget ! 35 refl $ forget ! 37 refl $ forget ! 39 refl $ forget ! 41 refl $ forget ! 43 refl $ forget ! 45 refl $
-          move ! (45 ∷ 46 ∷ []) $ free1 ! $ move ! (43 ∷ 44 ∷ []) $ free1 ! $ move ! (41 ∷ 42 ∷ []) $ free1 ! $ move ! (39 ∷ 40 ∷ []) $ free1 ! $ move ! (37 ∷ 38 ∷ []) $ free1 ! $ move ! (35 ∷ 36 ∷ []) $ free1 ! $ move ! (33 ∷ 34 ∷ []) $ free1 ! $ move ! (31 ∷ 32 ∷ []) $ free1 ! $ move ! (29 ∷ 30 ∷ []) $ free1 ! $ move ! (27 ∷ 28 ∷ []) $ free1 ! $ move ! (25 ∷ 26 ∷ []) $ free1 ! $ move ! (23 ∷ 24 ∷ []) $ free1 ! $ move ! (21 ∷ 22 ∷ []) $ free1 ! $ move ! (19 ∷ 20 ∷ []) $ free1 ! $ move ! (17 ∷ 18 ∷ []) $ free1 ! $ move ! (15 ∷ 16 ∷ []) $ free1 ! $ move ! (13 ∷ 14 ∷ []) $ free1 ! $ move ! (11 ∷ 12 ∷ []) $ free1 ! $ move ! (9 ∷ 10 ∷ []) $ free1 ! $ free0 ! $
-          keep ! (3 ∷ 4 ∷ 5 ∷ 0 ∷ 1 ∷ 2 ∷ 6 ∷ 8 ∷ 9 ∷ 7 ∷ []) $ by ! (exits (lentCall (h .count) d (ws .1 .1 .1 .1 .1 .0) (ws .1 .1 .1 .1 .1 .1 .0) (ws .1 .1 .1 .1 .1 .1 .1 .0)) (ws .1 .1 .1 .1 .1 .1 .1 .1 .0) (ws .1 .1 .1 .1 .1 .1 .1 .1 .1 .1 .0) (LL.owed D.the-type D′.the-laws d (u ∷ []) is .0 .1) ly lz e))))))))))))))))))))))))))))))))))))))
+          -- [obs 5; borrow 5; token 4; obs; borrow; token 0; the tokens; room's last; cells' last; _15 at 9; …; _6 at 27; …; room for _0 at 39; event again; …]
+          assigns ! (of-opd ! (load ! (from ! (fld ! refl (stop !))) (look-in ! 27 (sub ! 0 refl (whole !))))) (from ! (stop !)) (init ! 39 refl (tt, record { fits = LL.owed D.the-type D′.the-laws d (u ∷ []) is .0 .1 })) $
+          returns ! (look ! 39 refl) $ forget ! 9 refl $ forget ! 11 refl $ forget ! 13 refl $ forget ! 15 refl $ forget ! 17 refl $ forget ! 19 refl $ forget ! 21 refl $ forget ! 23 refl $ forget ! 25 refl $ forget ! 27 refl $ forget ! 29 refl $ forget ! 31 refl $ forget ! 33 refl $ forget ! 35 refl $ forget ! 37 refl $ forget ! 39 refl $
+          move ! (39 ∷ 40 ∷ []) $ free1 ! $ move ! (37 ∷ 38 ∷ []) $ free1 ! $ move ! (35 ∷ 36 ∷ []) $ free1 ! $ move ! (33 ∷ 34 ∷ []) $ free1 ! $ move ! (31 ∷ 32 ∷ []) $ free1 ! $ move ! (29 ∷ 30 ∷ []) $ free1 ! $ move ! (27 ∷ 28 ∷ []) $ free1 ! $ move ! (25 ∷ 26 ∷ []) $ free1 ! $ move ! (23 ∷ 24 ∷ []) $ free1 ! $ move ! (21 ∷ 22 ∷ []) $ free1 ! $ move ! (19 ∷ 20 ∷ []) $ free1 ! $ move ! (17 ∷ 18 ∷ []) $ free1 ! $ move ! (15 ∷ 16 ∷ []) $ free1 ! $ move ! (13 ∷ 14 ∷ []) $ free1 ! $ move ! (11 ∷ 12 ∷ []) $ free1 ! $ move ! (9 ∷ 10 ∷ []) $ free1 ! $ free0 ! $
+          keep ! (3 ∷ 4 ∷ 5 ∷ 0 ∷ 1 ∷ 2 ∷ 6 ∷ 8 ∷ 9 ∷ 7 ∷ []) $ by ! (exits (lentCall d (ws .1 .1 .0) (ws .1 .1 .1 .0) (ws .1 .1 .1 .1 .0)) (ws .1 .1 .1 .1 .1 .0) (ws .1 .1 .1 .1 .1 .1 .1 .0) (LL.owed D.the-type D′.the-laws d (u ∷ []) is .0 .1) ly lz e)))))))))))))))))))))))))))))))))))
 
   module _ {M : Type 1} (𝓤 : URA M) (H : Heap 𝓤) (A : Atoms 𝓤) (W : Given 𝓤 H A) (at-mem : Memory → SProp 𝓤) (run : Routine → Fun 𝓤) where
     walks : (C : Calls 𝓤 H) (Λ : Loops 𝓤 H) → FmC 𝓤 H (W .laws) C → Triple 𝓤 (C #boundary·call-words) (CallWords 𝓤 H A at-mem run) → Walks 𝓤 H A f.ended stayed (WpFn 𝓤 H C Λ (code tag)) (clauses σ 𝓤)

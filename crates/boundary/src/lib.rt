@@ -9,6 +9,7 @@ ghost use Rattle.boundary.specs.Lent.{started, calledWith, Leaves};
 use engine::LentCall;
 use model::Event;
 use model::Scheme;
+use record::Counts;
 use record::Record;
 
 // The event that words stand for: 29 of them, or one that is not well formed.
@@ -34,10 +35,7 @@ pub(crate) fn event_of(words: &[u32]) -> Event
 // A call by a scheme on lent rows, with the event in words.
 pub(crate) fn call_words(
     scheme: Scheme,
-    count: u32,
-    largest: u32,
-    uncommitted: u32,
-    waiting: u32,
+    counts: Counts,
     live: &mut engine::Live,
     runs: &mut engine::Runs,
     undo: &mut engine::Undone,
@@ -45,22 +43,12 @@ pub(crate) fn call_words(
     event: &[u32],
     room: &mut [u32],
 ) -> LentCall
-    ensures { λ d. ⌜ Leaves scheme (recordBy count largest uncommitted waiting (now (live .entry)) (now (runs .entry)) (now (undo .entry))) (eventOf (now (event .entry))) (now (cells .entry)) (now (room .entry)) (lentCall count d (now (live .exit)) (now (runs .exit)) (now (undo .exit))) (now (cells .exit)) (now (room .exit)) ⌝ }
+    ensures { λ d. ⌜ Leaves scheme (recordBy counts (now (live .entry)) (now (runs .entry)) (now (undo .entry)))
+        (eventOf (now (event .entry))) (now (cells .entry)) (now (room .entry))
+        (lentCall d (now (live .exit)) (now (runs .exit)) (now (undo .exit))) (now (cells .exit)) (now (room .exit)) ⌝ }
 {
     let v = event_of(event);
-    engine::call_lent(
-        scheme,
-        count,
-        largest,
-        uncommitted,
-        waiting,
-        live,
-        runs,
-        undo,
-        cells,
-        v,
-        room,
-    )
+    engine::call_lent(scheme, counts, live, runs, undo, cells, v, room)
 }
 
 // Starts a record of so many cells, whatever it held.
@@ -82,14 +70,12 @@ pub extern "C" fn harukdalis_call(
     room: &mut [u32],
     answers: &mut u32,
 ) -> u32
-    ensures { λ n. ⌜ Leaves Speculation (now (r .entry)) (eventOf (now (event .entry))) (now (cells .entry)) (now (room .entry)) (calledWith n (now (answers .exit)) (now (r .exit))) (now (cells .exit)) (now (room .exit)) ⌝ }
+    ensures { λ n. ⌜ Leaves Speculation (now (r .entry)) (eventOf (now (event .entry))) (now (cells .entry)) (now (room .entry))
+        (calledWith n (now (answers .exit)) (now (r .exit))) (now (cells .exit)) (now (room .exit)) ⌝ }
 {
     let t = call_words(
         Scheme::Speculation,
-        r.count,
-        r.largest,
-        r.uncommitted,
-        r.waiting,
+        r.counts,
         &mut r.live,
         &mut r.runs,
         &mut r.undo,
@@ -97,9 +83,7 @@ pub extern "C" fn harukdalis_call(
         event,
         room,
     );
-    r.largest = t.largest;
-    r.uncommitted = t.uncommitted;
-    r.waiting = t.waiting;
+    r.counts = t.counts;
     *answers = t.answers;
     t.number
 }
@@ -113,14 +97,12 @@ pub extern "C" fn harukdalis_call_blocking(
     room: &mut [u32],
     answers: &mut u32,
 ) -> u32
-    ensures { λ n. ⌜ Leaves Blocking (now (r .entry)) (eventOf (now (event .entry))) (now (cells .entry)) (now (room .entry)) (calledWith n (now (answers .exit)) (now (r .exit))) (now (cells .exit)) (now (room .exit)) ⌝ }
+    ensures { λ n. ⌜ Leaves Blocking (now (r .entry)) (eventOf (now (event .entry))) (now (cells .entry)) (now (room .entry))
+        (calledWith n (now (answers .exit)) (now (r .exit))) (now (cells .exit)) (now (room .exit)) ⌝ }
 {
     let t = call_words(
         Scheme::Blocking,
-        r.count,
-        r.largest,
-        r.uncommitted,
-        r.waiting,
+        r.counts,
         &mut r.live,
         &mut r.runs,
         &mut r.undo,
@@ -128,9 +110,7 @@ pub extern "C" fn harukdalis_call_blocking(
         event,
         room,
     );
-    r.largest = t.largest;
-    r.uncommitted = t.uncommitted;
-    r.waiting = t.waiting;
+    r.counts = t.counts;
     *answers = t.answers;
     t.number
 }

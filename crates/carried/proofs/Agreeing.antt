@@ -21,7 +21,7 @@ use Rattle.engine.specs.Called.{stepped, called}
 use Rattle.carried.specs.Carried.{Words, AllWords, returned, roomOf, answerAt, answerOf, RecordRun, onwardR, runsR, freshR, LendsR, AllLendR, settledInR}
 use Rattle.carried.specs.Agreed.{TwinsR, IdleR, answersFrom, answersOf, RecordSchemesAgree}
 use Rattle.carried.proofs.Carrying.{meant, noAnswer, answer-is, answer-sent, reached, lent, from}
-use Rattle.engine.proofs.Viewed.{view-count, view-waits}
+use Rattle.record.proofs.Viewed.{view-count, view-waits}
 
 -- the answers read from the room are the model's
 read-all : (room : List ℕ) (i : ℕ) (l : List Answer) → ((k : ℕ) → k < length l → answerAt room (i + k) ≡ getD l k noAnswer) → answersFrom room i (length l) ≡ l
@@ -58,7 +58,7 @@ module _ (cs : Cells) (calls calls′ : List Call) (t : TwinsR cs calls calls′
 
   agreed-cells : IdleR here → here .cells ≡ there .cells
   agreed-cells h = over (λ (x y : Run). Idle x → x .cells ≡ y .cells) (schemes-agree cs .cells calls calls′ twins)
-      (none-live (view (here .kept) .uncommitted) (view (here .kept) .waiting) (here .kept .uncommitted) (here .kept .waiting) (view-count (here .kept)) (view-waits (here .kept)) h)
+      (none-live (view (here .kept) .uncommitted) (view (here .kept) .waiting) (here .kept .counts .uncommitted) (here .kept .counts .waiting) (view-count (here .kept)) (view-waits (here .kept)) h)
 
   agreed-singles : (c c′ : Call) → Alike c c′ → Words (c .event) → Words (c′ .event) → LendsR here c → LendsR there c′
       → ofSingles (onwardR here c .log) (answersOf (here .kept) c) ≡ ofSingles (onwardR there c′ .log) (answersOf (there .kept) c′)

@@ -26,9 +26,9 @@ use Rattle.record.proofs.Rows.{numbers-same, numbers-whole}
 use Rattle.record.proofs.Back.{known-of, view-pack}
 use Rattle.engine.specs.Called.{stepped, nextOf, called, freshOf}
 use Rattle.carried.specs.Carried.{Words, AllWords, returned, answerFrom, answerAt, answerOf, RecordRun, onwardR, runsR, freshR, LendsR, AllLendR, CellsHoldR, SettlingOrderR, PlainRightR, NoAbortR, DependentRightR, RecordDemand3}
-use Rattle.engine.proofs.Rooms.{length-words}
+use Rattle.rows.proofs.Rooms.{length-words}
 use Rattle.carried.proofs.Fine.{Small, Fine, rows-eight, taken-fine}
-use Rattle.engine.proofs.Viewed.{First, view-count, view-largest, view-first, view-waiting}
+use Rattle.record.proofs.Viewed.{First, view-count, view-largest, view-first, view-waiting}
 use Rattle.model.specs.Parts.{All}
 use Rattle.record.specs.Fitting.{Eight, Fit, Known}
 
@@ -216,7 +216,7 @@ module _ (cs : Cells) where
         }
       where
         -- to the largest of the record itself
-        to : (ns : List ℕ) → Rises 0 (view (here .kept) .largest) ns → Rises 0 (here .kept .largest) ns
+        to : (ns : List ℕ) → Rises 0 (view (here .kept) .largest) ns → Rises 0 (here .kept .counts .largest) ns
         to ns h = subst (λ (n : ℕ). Rises 0 n ns) (view-largest (here .kept)) h
 
     carried-plain : (c : Call) → Words (c .event) → LendsR here c → PlainRightR cs here c

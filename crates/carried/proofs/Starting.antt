@@ -54,9 +54,9 @@ module _ (n : ℕ) (refused : freshOf n .number ≡ 3) where
   unfolding called stepped
   three c k = at-none (λ (e : Engine). step e c .number ≡ 3) (not-started c k)
 
-  no-cells : freshOf n .next .count ≡ 0
+  no-cells : freshOf n .next .counts .cells ≡ 0
   unfolding freshOf pack
-  no-cells = ap (λ (e : Engine). pack e .count) is-empty
+  no-cells = ap (λ (e : Engine). pack e .counts .cells) is-empty
 
 pub not-started-record : (n : ℕ) → freshOf n .number ≡ 3 → NotStarted n
 not-started-record n h = record {

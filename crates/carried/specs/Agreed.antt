@@ -20,7 +20,7 @@ pub record TwinsR (cs : Cells) (calls calls′ : List Call) : Type 0 where
 
 -- "whenever nothing is live"
 abbrev pub IdleR : RecordRun → Type 0
-IdleR r = r .kept .uncommitted + r .kept .waiting ≡ 0
+IdleR r = r .kept .counts .uncommitted + r .kept .counts .waiting ≡ 0
 
 -- n answers of a room, from the i-th on
 abbrev pub answersFrom : List ℕ → ℕ → ℕ → List Answer

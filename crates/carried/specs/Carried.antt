@@ -77,7 +77,7 @@ AllLendR r (c ∷ calls) = LendsR r c × AllLendR (onwardR r c) calls
 
 -- the uncommitted ones: as many of the live ones as the record counts
 abbrev pub uncommittedR : RecordRun → List Tx
-uncommittedR r = take (r .kept .uncommitted) (liveOf (r .log))
+uncommittedR r = take (r .kept .counts .uncommitted) (liveOf (r .log))
 
 abbrev pub CellsHoldR : Cells → RecordRun → Type 0
 CellsHoldR cs r = r .cells ≡ serial (uncommittedR r) (serial (settledOf (r .log)) cs)
@@ -90,8 +90,8 @@ abbrev pub settledInR : RecordRun → List Tx
 settledInR r = settledBy (numbers (view (r .kept) .uncommitted) (view (r .kept) .waiting)) (r .log)
 
 pub record SettlingOrderR (r : RecordRun) (c : Call) : Type 0 where
-  pub accepted : Rises 0 (r .kept .largest) (numbersOf (r .log))
-  pub rises : Rises 0 (r .kept .largest) (numbersOf (settledOf (r .log) ++ liveOf (r .log)))
+  pub accepted : Rises 0 (r .kept .counts .largest) (numbersOf (r .log))
+  pub rises : Rises 0 (r .kept .counts .largest) (numbersOf (settledOf (r .log) ++ liveOf (r .log)))
   pub more : List Tx
   pub grows : settledOf (onwardR r c .log) ≡ settledOf (r .log) ++ more
   pub named : numbersOf more ≡ settlesBy (returned (r .kept) c .number) (view (r .kept)) c
@@ -129,6 +129,6 @@ pub record RecordDemand3 (cs : Cells) : Type 0 where
 
 -- "a record with 0 cells, which every later call with enough room refuses by 3": after a refused start with n cells and any calls, whatever they were lent
 pub record NotStarted (n : ℕ) : Type 0 where
-  pub none : freshOf n .next .count ≡ 0
+  pub none : freshOf n .next .counts .cells ≡ 0
   pub stays : (cs : Cells) (calls : List Call) → runsR (startedR n cs) calls .kept ≡ freshOf n .next
   pub refuses : (cs : Cells) (calls : List Call) (c : Call) → leastRoom ≤ length (c .room) → returned (runsR (startedR n cs) calls .kept) c .number ≡ 3

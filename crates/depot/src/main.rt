@@ -1,10 +1,11 @@
 // The depot cases that no trace reaches: calls on records that no run leaves. Each prints its number as `e case number`, with the answers as
 // `a` lines. A case is the record of `base` with one word changed, or two.
-ghost use Prim.Native.Nat.{_≤_};
+ghost use Prim.Native.Nat.{_≤_, _<_};
 use libc::STDOUT_FILENO;
 use model::Event;
 use model::Fragment;
 use model::Op;
+use record::Counts;
 use record::Record;
 
 // What a case changes in the record of `base`: a word at a place, and one more. Place 2420 is none.
@@ -15,8 +16,8 @@ struct Change {
     word_too: u32,
 }
 
-// Unsound records, by the clauses of refusal 1.
-const UNSOUND: [Change; 39] = [
+// First 39 unsound records, by the clauses of refusal 1; then 24 odd ones that no run leaves and that are sound.
+const CASES: [Change; 63] = [
     // a cell count above 4,096
     Change {
         place: 0,
@@ -290,10 +291,6 @@ const UNSOUND: [Change; 39] = [
         place_too: 2420,
         word_too: 0,
     },
-];
-
-// Odd records that no run leaves and that are sound.
-const ODD: [Change; 24] = [
     // nothing odd
     Change {
         place: 2420,
@@ -526,38 +523,38 @@ fn after(r: Record, cells: &mut [u32], event: Event, room: &mut [u32]) -> Record
 // Four cells, and uncommitted: 3, finished in two fragments with three entries; single 5, held.
 fn front(cells: &mut [u32], room: &mut [u32]) -> Record {
     let fresh = engine::start(4);
-    let three = fragment(1, 1, 3, op(2, 0, 1), op(3, 1, 1), op(1, 0, 0));
-    let r3 = after(
-        fresh.next,
-        cells,
-        Event {
-            kind: 1,
-            number: 3,
-            fragment: three,
-        },
-        room,
-    );
-    let r4 = after(r3, cells, arrival(3, 3, 1, op(2, 2, 4)), room);
-    let two = fragment(2, 0, 2, op(3, 0, 1), op(1, 1, 0), op(0, 0, 0));
-    after(
-        r4,
-        cells,
-        Event {
-            kind: 1,
-            number: 5,
-            fragment: two,
-        },
-        room,
-    )
+    let three = Event {
+        kind: 1,
+        number: 3,
+        fragment: fragment(1, 1, 3, op(2, 0, 1), op(3, 1, 1), op(1, 0, 0)),
+    };
+    let more = arrival(3, 3, 1, op(2, 2, 4));
+    let five = Event {
+        kind: 1,
+        number: 5,
+        fragment: fragment(2, 0, 2, op(3, 0, 1), op(1, 1, 0), op(0, 0, 0)),
+    };
+    let r3 = after(fresh.next, cells, three, room);
+    let r4 = after(r3, cells, more, room);
+    after(r4, cells, five, room)
 }
 
-// Behind them multi 6, sent; multi 8 of another coordinator, held and running. Waiting: single 9 and multi 12.
-fn base(cells: &mut [u32], room: &mut [u32]) -> Record {
+// Behind them multi 6, sent; multi 8 of another coordinator, held and running.
+fn behind(cells: &mut [u32], room: &mut [u32]) -> Record {
+    let six = arrival(6, 3, 1, op(4, 1, 1));
+    let eight = arrival(8, 1, 2, op(7, 3, 9));
     let r5 = front(cells, room);
-    let r6 = after(r5, cells, arrival(6, 3, 1, op(4, 1, 1)), room);
-    let r8 = after(r6, cells, arrival(8, 1, 2, op(7, 3, 9)), room);
-    let r9 = after(r8, cells, arrival(9, 2, 0, op(1, 0, 0)), room);
-    after(r9, cells, arrival(12, 3, 7, op(8, 1, 3)), room)
+    let r6 = after(r5, cells, six, room);
+    after(r6, cells, eight, room)
+}
+
+// Waiting: single 9 and multi 12.
+fn base(cells: &mut [u32], room: &mut [u32]) -> Record {
+    let nine = arrival(9, 2, 0, op(1, 0, 0));
+    let twelve = arrival(12, 3, 7, op(8, 1, 3));
+    let r8 = behind(cells, room);
+    let r9 = after(r8, cells, nine, room);
+    after(r9, cells, twelve, room)
 }
 
 // The word of a count: the new one where its place is meant.
@@ -580,11 +577,14 @@ fn changed(r: Record, place: u32, word: u32) -> Record {
     put_from(&mut live, 4, place, word);
     put_from(&mut runs, 1796, place, word);
     put_from(&mut undo, 2052, place, word);
+    let counts = Counts {
+        cells: count_with(place, 0, word, r.counts.cells),
+        largest: count_with(place, 1, word, r.counts.largest),
+        uncommitted: count_with(place, 2, word, r.counts.uncommitted),
+        waiting: count_with(place, 3, word, r.counts.waiting),
+    };
     Record {
-        count: count_with(place, 0, word, r.count),
-        largest: count_with(place, 1, word, r.largest),
-        uncommitted: count_with(place, 2, word, r.uncommitted),
-        waiting: count_with(place, 3, word, r.waiting),
+        counts: counts,
         live: live,
         runs: runs,
         undo: undo,
@@ -620,13 +620,47 @@ fn refill(cells: &mut [u32]) {
     operations::put_at(cells, 3, 9);
 }
 
-// Each is 1, whatever comes.
-fn unsound(out: &mut [u8], from: u32, r: Record, cells: &mut [u32], room: &mut [u32]) -> u32 {
-    let mut at = from;
-    let mut i: usize = 0;
-    while i < 39 {
-        let c = UNSOUND[i];
-        at = try_call(
+// A decision of the front, on the cells as `base` leaves them.
+fn decide(
+    out: &mut [u8],
+    at: u32,
+    position: u32,
+    r: Record,
+    cells: &mut [u32],
+    kind: u32,
+    room: &mut [u32],
+) -> u32 {
+    refill(cells);
+    try_call(out, at, position, r, cells, decision(kind, 3), room)
+}
+
+// A commit of the front and, on the cells as they were, an abort.
+fn decide_both(
+    out: &mut [u8],
+    at: u32,
+    position: u32,
+    r: Record,
+    cells: &mut [u32],
+    room: &mut [u32],
+) -> u32 {
+    let middle = decide(out, at, position, r, cells, 2, room);
+    decide(out, middle, position, r, cells, 3, room)
+}
+
+// Of an unsound one each is 1, whatever comes; a sound one is decided. Both kinds are numbered from 1.
+fn try_case(
+    out: &mut [u8],
+    at: u32,
+    i: usize,
+    r: Record,
+    cells: &mut [u32],
+    room: &mut [u32],
+) -> u32
+    requires { ⌜ i < 63 ⌝ }
+{
+    let c = CASES[i];
+    if i < 39 {
+        return try_call(
             out,
             at,
             i as u32 + 1,
@@ -635,22 +669,15 @@ fn unsound(out: &mut [u8], from: u32, r: Record, cells: &mut [u32], room: &mut [
             decision(3, 3),
             room,
         );
-        i = i + 1;
     }
-    at
+    decide_both(out, at, i as u32 - 38, case(r, c), cells, room)
 }
 
-// A commit of the front and, on the cells as they were, an abort.
-fn odd(out: &mut [u8], from: u32, r: Record, cells: &mut [u32], room: &mut [u32]) -> u32 {
-    let mut at = from;
+fn cases(out: &mut [u8], r: Record, cells: &mut [u32], room: &mut [u32]) -> u32 {
+    let mut at: u32 = 0;
     let mut i: usize = 0;
-    while i < 24 {
-        let c = ODD[i];
-        let two = case(r, c);
-        refill(cells);
-        let middle = try_call(out, at, i as u32 + 1, two, cells, decision(2, 3), room);
-        refill(cells);
-        at = try_call(out, middle, i as u32 + 1, two, cells, decision(3, 3), room);
+    while i < 63 {
+        at = try_case(out, at, i, r, cells, room);
         i = i + 1;
     }
     at
@@ -673,18 +700,22 @@ fn lend(out: &mut [u8], at: u32, position: u32, r: Record, many: usize, much: us
     )
 }
 
-// Refusals 2 and 3, each alone and before the ones behind it.
+// Refusals 1, 2 and 3, each before the ones behind it; a cell too few and one too many.
 fn lent(out: &mut [u8], from: u32, r: Record) -> u32 {
     let bad = changed(r, 0, 4097);
-    let none = engine::start(0);
     let a = lend(out, from, 1, bad, 3, 1023);
     let b = lend(out, a, 2, r, 3, 1023);
     let c = lend(out, b, 3, r, 3, 1024);
-    let d = lend(out, c, 4, r, 5, 1024);
-    let e = lend(out, d, 5, r, 0, 1024);
-    let f = lend(out, e, 6, none.next, 0, 1024);
-    let g = lend(out, f, 7, none.next, 4, 1024);
-    lend(out, g, 8, r, 4, 1024)
+    lend(out, c, 4, r, 5, 1024)
+}
+
+// No cell lent, and a record that has none; at last all that is asked for.
+fn unlent(out: &mut [u8], from: u32, r: Record) -> u32 {
+    let none = engine::start(0);
+    let a = lend(out, from, 5, r, 0, 1024);
+    let b = lend(out, a, 6, none.next, 0, 1024);
+    let c = lend(out, b, 7, none.next, 4, 1024);
+    lend(out, c, 8, r, 4, 1024)
 }
 
 // The line of a start with so many cells, and where it ends.
@@ -702,19 +733,33 @@ fn started(out: &mut [u8], from: u32) -> u32 {
     start_with(out, c, 12, 4096)
 }
 
-// Refusal 2 with all else lent; then records that were only started, with no cell, the one that they have and one more, too few and too many.
+// Refusal 2 with all else lent; then a record that was only started, with no cell and with the one that it has.
 fn fresh(out: &mut [u8], from: u32, r: Record) -> u32 {
     let one = engine::start(1);
-    let most = engine::start(4096);
-    let many = engine::start(4097);
     let a = lend(out, from, 13, r, 4, 1023);
     let b = lend(out, a, 14, r, 4, 0);
     let c = lend(out, b, 15, one.next, 0, 1024);
-    let d = lend(out, c, 16, one.next, 1, 1024);
-    let e = lend(out, d, 17, one.next, 2, 1024);
-    let f = lend(out, e, 18, most.next, 5, 1024);
-    let g = lend(out, f, 19, many.next, 4, 1024);
-    lend(out, g, 20, many.next, 4, 1023)
+    lend(out, c, 16, one.next, 1, 1024)
+}
+
+// The same with one more, with too few, and records of too many.
+fn unfit(out: &mut [u8], from: u32) -> u32 {
+    let one = engine::start(1);
+    let most = engine::start(4096);
+    let many = engine::start(4097);
+    let a = lend(out, from, 17, one.next, 2, 1024);
+    let b = lend(out, a, 18, most.next, 5, 1024);
+    let c = lend(out, b, 19, many.next, 4, 1024);
+    lend(out, c, 20, many.next, 4, 1023)
+}
+
+// All of these, in the order of their numbers.
+fn lendings(out: &mut [u8], from: u32, r: Record) -> u32 {
+    let a = lent(out, from, r);
+    let b = unlent(out, a, r);
+    let c = started(out, b);
+    let d = fresh(out, c, r);
+    unfit(out, d)
 }
 
 fn main() {
@@ -722,12 +767,9 @@ fn main() {
     let mut cells = [5u32, 10, 0, 7];
     let mut room = [0u32; 1024];
     let r = base(&mut cells, &mut room);
-    let a = unsound(&mut out, 0, r, &mut cells, &mut room);
-    let b = odd(&mut out, a, r, &mut cells, &mut room);
-    let c = lent(&mut out, b, r);
-    let d = started(&mut out, c);
-    let e = fresh(&mut out, d, r);
-    if e <= 4096 {
-        io::write_all(STDOUT_FILENO, &out[..e as usize]);
+    let a = cases(&mut out, r, &mut cells, &mut room);
+    let b = lendings(&mut out, a, r);
+    if b <= 4096 {
+        io::write_all(STDOUT_FILENO, &out[..b as usize]);
     }
 }

@@ -24,11 +24,11 @@ use Rattle.model.proofs.Sound.{sound-parts, entries-depth, entries-most}
 use Rattle.model.proofs.Keeping.{joined-sound, continued-sound, settled-sound, front-leaves, aborted-sound, alone}
 use Rattle.model.proofs.Kept.{arrives-storable}
 use Rattle.operations.specs.Laid.{padded}
-use Rattle.record.specs.Words.{rowWords, allRows, liveRows}
+use Rattle.record.specs.Words.{rowWords, allRows, rowOf, liveRows}
 use Rattle.record.proofs.Rows.{lay-padded, shift-padded}
 use Rattle.record.proofs.Back.{known-of, length-row, length-rows, rows-append, number-back, eights-first, eights-rest}
 use Rattle.refusals.specs.Rest.{callOf, frontIs, behindFirst}
-use Rattle.engine.specs.declared.counts.Counts.{Counts}
+use Rattle.engine.specs.declared.course.Course.{Course}
 use Rattle.engine.specs.Work.{waitingMore, Work, Left, Small, Fair, Drained, Committed, Aborted, Continued}
 use Rattle.engine.specs.Ready.{Ready}
 use Rattle.model.specs.Parts.{All, Passed, Sound}
@@ -36,7 +36,7 @@ use Rattle.record.specs.Fitting.{Eight, Known}
 use Rattle.record.specs.Widths.{liveWidth, liveLength}
 
 -- the rows hold lists whose drain, with the answers sent so far, is q
-pub record Begun (σ : Scheme) (live runs undo room : List ℕ) (cells : Cells) (c : Counts) (room₀ : List ℕ) (q : Queues) : Type 0 where
+pub record Begun (σ : Scheme) (live runs undo room : List ℕ) (cells : Cells) (c : Course) (room₀ : List ℕ) (q : Queues) : Type 0 where
   pub ct : ℕ
   pub top : ℕ
   pub gone : List Waiting
@@ -49,14 +49,14 @@ pub record Begun (σ : Scheme) (live runs undo room : List ℕ) (cells : Cells) 
   pub small : Small c
   pub rest : sending sent names (Steps.drain σ cells us ws) ≡ q
 
-pub drained-left : (σ : Scheme) (live runs undo room runs′ undo′ room′ : List ℕ) (cells cells′ : Cells) (c c′ : Counts) (room₀ : List ℕ) (q : Queues) → Begun σ live runs undo room cells c room₀ q
+pub drained-left : (σ : Scheme) (live runs undo room runs′ undo′ room′ : List ℕ) (cells cells′ : Cells) (c c′ : Course) (room₀ : List ℕ) (q : Queues) → Begun σ live runs undo room cells c room₀ q
     → Drained σ live runs undo room cells c runs′ undo′ room′ cells′ c′ → Left live runs′ undo′ room′ c′ cells′ [] room₀ q
 drained-left σ live runs undo room runs′ undo′ room′ cells cells′ c c′ room₀ q b d =
     let l = d (b .gone) (b .us) (b .ws) (b .sent) room₀ (b .work) (b .ct) (b .top) (b .sound) in
     subst (λ (x : Queues). Left live runs′ undo′ room′ c′ cells′ [] room₀ x) (b .rest) (record { gone = l .gone; work = l .work; stands = l .stands })
 
-small-of : (live runs undo room : List ℕ) (c : Counts) (gone : List Waiting) (us : List Uncommitted) (ws : List Waiting) (sent : List Answer) (room₀ : List ℕ) (ct top : ℕ) → Work live runs undo room c gone us ws sent room₀
-    → Sound ct top us ws → c .first + c .uncommitted + c .waiting ≤ 64 → length sent + length ws ≤ 64 → Small c
+small-of : (live runs undo room : List ℕ) (c : Course) (gone : List Waiting) (us : List Uncommitted) (ws : List Waiting) (sent : List Answer) (room₀ : List ℕ) (ct top : ℕ) → Work live runs undo room c gone us ws sent room₀
+    → Sound ct top us ws → c .first + c .counts .uncommitted + c .counts .waiting ≤ 64 → length sent + length ws ≤ 64 → Small c
 small-of live runs undo room c gone us ws sent room₀ ct top w s h k = record {
   live = h;
   answers = omega (arith, w .answers, w .waiting);
@@ -66,7 +66,7 @@ small-of live runs undo room c gone us ws sent room₀ ct top w s h k = record {
 
 -- What a ready call has
 
-module _ (σ : Scheme) (live₀ runs undo room : List ℕ) (cells : Cells) (c : Counts) (v : Event) (e : Engine) (rd : Ready σ live₀ runs undo room cells c v e) where
+module _ (σ : Scheme) (live₀ runs undo room : List ℕ) (cells : Cells) (c : Course) (v : Event) (e : Engine) (rd : Ready σ live₀ runs undo room cells c v e) where
   parts : Sound (e .count) (e .largest) (e .uncommitted) (e .waiting)
   parts = sound-parts e (not-false (sound e) (rd .passed .one))
 
@@ -82,17 +82,17 @@ module _ (σ : Scheme) (live₀ runs undo room : List ℕ) (cells : Cells) (c : 
   decided : eqb (v .kind) 1 ≡ false → isFront (v .number) e ≡ true
   decided a = decides-front e (callOf σ v cells room) a (rd .passed)
 
-  pub some-uncommitted : eqb (v .kind) 1 ≡ false → 0 < c .uncommitted
+  pub some-uncommitted : eqb (v .kind) 1 ≡ false → 0 < c .counts .uncommitted
   some-uncommitted a = go (e .uncommitted) (decided a) (rd .work .uncommitted)
     where
-      go : (us : List Uncommitted) → front (λ (u : Uncommitted). eqb (u .number) (v .number)) us ≡ true → length us ≡ c .uncommitted → 0 < c .uncommitted
+      go : (us : List Uncommitted) → front (λ (u : Uncommitted). eqb (u .number) (v .number)) us ≡ true → length us ≡ c .counts .uncommitted → 0 < c .counts .uncommitted
       go [] h k = absurd (true≢false (sym h))
       go (u ∷ us) h k = omega arith
 
 -- Abort
 
-begun-aborted : (σ : Scheme) (live runs undo room runs′ undo′ : List ℕ) (cells cells′ : Cells) (c c′ : Counts) (ct top : ℕ) (us : List Uncommitted) (ws : List Waiting) (n : ℕ) → Work live runs undo room c [] us ws [] room → Sound ct top us ws
-    → front (λ (u : Uncommitted). eqb (u .number) n) us ≡ true → Aborted runs undo cells c runs′ undo′ cells′ c′ → c′ .first + c′ .uncommitted + c′ .waiting ≤ 64
+begun-aborted : (σ : Scheme) (live runs undo room runs′ undo′ : List ℕ) (cells cells′ : Cells) (c c′ : Course) (ct top : ℕ) (us : List Uncommitted) (ws : List Waiting) (n : ℕ) → Work live runs undo room c [] us ws [] room → Sound ct top us ws
+    → front (λ (u : Uncommitted). eqb (u .number) n) us ≡ true → Aborted runs undo cells c runs′ undo′ cells′ c′ → c′ .first + c′ .counts .uncommitted + c′ .counts .waiting ≤ 64
     → Begun σ live runs′ undo′ room cells′ c′ room (aborted σ cells us ws)
 begun-aborted σ live runs undo room runs′ undo′ cells cells′ c c′ ct top [] ws n w s h ab k = absurd (true≢false (sym h))
 begun-aborted σ live runs undo room runs′ undo′ cells cells′ c c′ ct top (u ∷ us) ws n w s h ab k =
@@ -101,21 +101,21 @@ begun-aborted σ live runs undo room runs′ undo′ cells cells′ c c′ ct to
     record {
       ct = ct;
       top = top;
-      gone = requeued u ∷ [];
+      gone = rowOf u ∷ [];
       us = [];
       ws = map requeued us ++ ws;
       sent = [];
       names = [];
       work = a .0;
       sound = sd;
-      small = small-of live runs′ undo′ room c′ (requeued u ∷ []) [] (map requeued us ++ ws) [] room ct top (a .0) sd k (omega (arith, sd .sixtyFour));
+      small = small-of live runs′ undo′ room c′ (rowOf u ∷ []) [] (map requeued us ++ ws) [] room ct top (a .0) sd k (omega (arith, sd .sixtyFour));
       rest = ap (λ (x : Cells). sending [] [] (Steps.drain σ x [] (map requeued us ++ ws))) (a .1);
     }
 
 -- Commit
 
-begun-committed : (σ : Scheme) (live runs undo room runs′ undo′ room′ : List ℕ) (cells : Cells) (c c′ : Counts) (ct top : ℕ) (us : List Uncommitted) (ws : List Waiting) (n : ℕ) → Work live runs undo room c [] us ws [] room → Sound ct top us ws
-    → front (λ (u : Uncommitted). eqb (u .number) n) us ≡ true → Committed live runs undo room c runs′ undo′ room′ c′ → c′ .first + c′ .uncommitted + c′ .waiting ≤ 64
+begun-committed : (σ : Scheme) (live runs undo room runs′ undo′ room′ : List ℕ) (cells : Cells) (c c′ : Course) (ct top : ℕ) (us : List Uncommitted) (ws : List Waiting) (n : ℕ) → Work live runs undo room c [] us ws [] room → Sound ct top us ws
+    → front (λ (u : Uncommitted). eqb (u .number) n) us ≡ true → Committed live runs undo room c runs′ undo′ room′ c′ → c′ .first + c′ .counts .uncommitted + c′ .counts .waiting ≤ 64
     → Begun σ live runs′ undo′ room′ cells c′ room (committed σ cells us ws)
 begun-committed σ live runs undo room runs′ undo′ room′ cells c c′ ct top [] ws n w s h cm k = absurd (true≢false (sym h))
 begun-committed σ live runs undo room runs′ undo′ room′ cells c c′ ct top (u ∷ us) ws n w s h cm k =
@@ -137,9 +137,9 @@ begun-committed σ live runs undo room runs′ undo′ room′ cells c c′ ct t
 
 -- A fragment of the front
 
-begun-continued : (σ : Scheme) (live runs undo room runs′ undo′ room′ : List ℕ) (cells cells′ : Cells) (c c′ : Counts) (f : Fragment) (ct top : ℕ) (u : Uncommitted) (us : List Uncommitted) (ws : List Waiting)
+begun-continued : (σ : Scheme) (live runs undo room runs′ undo′ room′ : List ℕ) (cells cells′ : Cells) (c c′ : Course) (f : Fragment) (ct top : ℕ) (u : Uncommitted) (us : List Uncommitted) (ws : List Waiting)
     → Work live runs undo room c [] (u ∷ us) ws [] room → Sound ct top (u ∷ us) ws → finished (u .state) ≡ false → u .ran < mostFragments → storable ct f ≡ true → length (f .row) ≡ 8
-    → Continued live runs undo room cells c f runs′ undo′ room′ cells′ c′ → c′ .first + c′ .uncommitted + c′ .waiting ≤ 64
+    → Continued live runs undo room cells c f runs′ undo′ room′ cells′ c′ → c′ .first + c′ .counts .uncommitted + c′ .counts .waiting ≤ 64
     → Begun σ live runs′ undo′ room′ cells′ c′ room (continued σ f cells u us ws)
 begun-continued σ live runs undo room runs′ undo′ room′ cells cells′ c c′ f ct top u us ws w s nf few st eight cn k = go us w s (alone ct top ws cells u us s nf)
   where
@@ -165,32 +165,32 @@ begun-continued σ live runs undo room runs′ undo′ room′ cells cells′ c 
 
 -- A new transaction
 
-begun-joined : (σ : Scheme) (live live′ runs undo room : List ℕ) (cells : Cells) (c c′ : Counts) (n : ℕ) (f : Fragment) (ct top : ℕ) (us : List Uncommitted) (ws : List Waiting)
+begun-joined : (σ : Scheme) (live live′ runs undo room : List ℕ) (cells : Cells) (c c′ : Course) (n : ℕ) (f : Fragment) (ct top : ℕ) (us : List Uncommitted) (ws : List Waiting)
     → Work live runs undo room c [] us ws [] room → Sound ct top us ws → top < n → storable ct f ≡ true → length us + length ws < mostLive → length (f .row) ≡ 8
-    → live′ ≡ sets live (liveWidth * (c .first + c .uncommitted + c .waiting)) (rowWords n f) → c′ ≡ waitingMore c
+    → live′ ≡ sets live (liveWidth * (c .first + c .counts .uncommitted + c .counts .waiting)) (rowWords n f) → c′ ≡ waitingMore c
     → Begun σ live′ runs undo room cells c′ room (joined σ n f cells us ws)
 unfolding allRows
 begun-joined σ live live′ runs undo room cells c c′ n f ct top us ws w s k st few eight el ec =
     let x : Waiting = record { number = n; fragment = f } in
     let old : List Waiting = liveRows us ws in
-    let rows : liveRows us (ws ++ (x ∷ [])) ≡ old ++ (x ∷ []) = sym (append-assoc (map requeued us) ws (x ∷ [])) in
-    let lo : length old ≡ c .first + c .uncommitted + c .waiting = length-append (map requeued us) ws ∙ omega (arith, length-map us requeued, w .first, w .uncommitted, w .waiting) in
+    let rows : liveRows us (ws ++ (x ∷ [])) ≡ old ++ (x ∷ []) = sym (append-assoc (map rowOf us) ws (x ∷ [])) in
+    let lo : length old ≡ c .first + c .counts .uncommitted + c .counts .waiting = length-append (map rowOf us) ws ∙ omega (arith, length-map us rowOf, w .first, w .uncommitted, w .waiting) in
     let lw : length (rowWords n f) ≡ liveWidth = length-row n f eight in
-    let lr : length (allRows old) ≡ liveWidth * (c .first + c .uncommitted + c .waiting) = length-rows old (w .eights) ∙ ap (λ (y : ℕ). liveWidth * y) lo in
+    let lr : length (allRows old) ≡ liveWidth * (c .first + c .counts .uncommitted + c .counts .waiting) = length-rows old (w .eights) ∙ ap (λ (y : ℕ). liveWidth * y) lo in
     let laid : live′ ≡ padded liveLength (allRows (liveRows us (ws ++ (x ∷ [])))) =
-    el ∙ ap (λ (y : List ℕ). sets y (liveWidth * (c .first + c .uncommitted + c .waiting)) (rowWords n f)) (w .at-live)
-    ∙ lay-padded liveLength (allRows old) (rowWords n f) (liveWidth * (c .first + c .uncommitted + c .waiting)) lr (omega (arith, lw, w .first, w .uncommitted, w .waiting))
+    el ∙ ap (λ (y : List ℕ). sets y (liveWidth * (c .first + c .counts .uncommitted + c .counts .waiting)) (rowWords n f)) (w .at-live)
+    ∙ lay-padded liveLength (allRows old) (rowWords n f) (liveWidth * (c .first + c .counts .uncommitted + c .counts .waiting)) lr (omega (arith, lw, w .first, w .uncommitted, w .waiting))
     ∙ ap (padded liveLength) (ap (λ (y : List ℕ). allRows old ++ y) (sym (append-nil (rowWords n f))) ∙ sym (rows-append old (x ∷ [])) ∙ ap allRows (sym rows)) in
     let wk : Work live′ runs undo room c′ [] us (ws ++ (x ∷ [])) [] room = record {
       at-live = laid;
       at-runs = w .at-runs;
       at-undo = w .at-undo;
       at-room = w .at-room;
-      first = w .first ∙ sym (ap (λ (y : Counts). y .first) ec);
-      uncommitted = w .uncommitted ∙ sym (ap (λ (y : Counts). y .uncommitted) ec);
-      waiting = length-append ws (x ∷ []) ∙ ap (λ (y : ℕ). y + 1) (w .waiting) ∙ sym (ap (λ (y : Counts). y .waiting) ec);
-      entries = w .entries ∙ sym (ap (λ (y : Counts). y .entries) ec);
-      answers = w .answers ∙ sym (ap (λ (y : Counts). y .answers) ec);
+      first = w .first ∙ sym (ap (λ (y : Course). y .first) ec);
+      uncommitted = w .uncommitted ∙ sym (ap (λ (y : Course). y .counts .uncommitted) ec);
+      waiting = length-append ws (x ∷ []) ∙ ap (λ (y : ℕ). y + 1) (w .waiting) ∙ sym (ap (λ (y : Course). y .counts .waiting) ec);
+      entries = w .entries ∙ sym (ap (λ (y : Course). y .entries) ec);
+      answers = w .answers ∙ sym (ap (λ (y : Course). y .answers) ec);
       eights = subst (All Eight) (sym rows) (all-append Eight old (x ∷ []) (w .eights) (eight, tt));
       enough = w .enough;
     } in
@@ -220,28 +220,28 @@ request-decides v b a e =
     ∙ ap {B = Request} (λ (x : Bool). elim x [ true ↦ Commit (v .number) | false ↦ Abort (v .number) ]) e
 
 -- the front's number, read from its row
-front-back : (live runs undo room : List ℕ) (c : Counts) (us : List Uncommitted) (ws : List Waiting) (n : ℕ) → Work live runs undo room c [] us ws [] room → frontIs (c .uncommitted) live n ≡ front (λ (u : Uncommitted). eqb (u .number) n) us
+front-back : (live runs undo room : List ℕ) (c : Course) (us : List Uncommitted) (ws : List Waiting) (n : ℕ) → Work live runs undo room c [] us ws [] room → frontIs (c .counts .uncommitted) live n ≡ front (λ (u : Uncommitted). eqb (u .number) n) us
 front-back live runs undo room c [] ws n w = ap (λ (x : ℕ). not (eqb x 0) && eqb (getD live 0 0) n) (sym (w .uncommitted))
 front-back live runs undo room c (u ∷ us) ws n w =
     ap (λ (x : ℕ). not (eqb x 0) && eqb (getD live 0 0) n) (sym (w .uncommitted))
     ∙ ap (λ (b : Bool). not b && eqb (getD live 0 0) n) (ne-eqb (suc (length us)) 0 (λ z. omega arith))
-    ∙ ap (λ (x : ℕ). eqb x n) (ap (λ (l : List ℕ). getD l 0 0) (w .at-live) ∙ number-back liveLength [] (requeued u) (liveRows us ws) 0 tt (w .eights .0) refl)
+    ∙ ap (λ (x : ℕ). eqb x n) (ap (λ (l : List ℕ). getD l 0 0) (w .at-live) ∙ number-back liveLength [] (rowOf u) (liveRows us ws) 0 tt (w .eights .0) refl)
 
-module _ (σ : Scheme) (live₀ runs undo room : List ℕ) (cells : Cells) (c : Counts) (v : Event) (e : Engine) (rd : Ready σ live₀ runs undo room cells c v e) where
-  pub abort-begun : eqb (v .kind) 1 ≡ false → eqb (v .kind) 2 ≡ false → (runs′ undo′ : List ℕ) (cells′ : Cells) (c′ : Counts) → Aborted runs undo cells c runs′ undo′ cells′ c′ → c′ .first + c′ .uncommitted + c′ .waiting ≤ 64
+module _ (σ : Scheme) (live₀ runs undo room : List ℕ) (cells : Cells) (c : Course) (v : Event) (e : Engine) (rd : Ready σ live₀ runs undo room cells c v e) where
+  pub abort-begun : eqb (v .kind) 1 ≡ false → eqb (v .kind) 2 ≡ false → (runs′ undo′ : List ℕ) (cells′ : Cells) (c′ : Course) → Aborted runs undo cells c runs′ undo′ cells′ c′ → c′ .first + c′ .counts .uncommitted + c′ .counts .waiting ≤ 64
       → Begun σ live₀ runs′ undo′ room cells′ c′ room (taken σ (request v) e cells)
   abort-begun a b runs′ undo′ cells′ c′ ab k =
       subst (λ (q : Request). Begun σ live₀ runs′ undo′ room cells′ c′ room (taken σ q e cells)) (sym (request-decides v false a b))
       (begun-aborted σ live₀ runs undo room runs′ undo′ cells cells′ c c′ (e .count) (e .largest) (e .uncommitted) (e .waiting) (v .number) (rd .work) (parts σ live₀ runs undo room cells c v e rd) (decided σ live₀ runs undo room cells c v e rd a) ab k)
 
-  pub commit-begun : eqb (v .kind) 1 ≡ false → eqb (v .kind) 2 ≡ true → (runs′ undo′ room′ : List ℕ) (c′ : Counts) → Committed live₀ runs undo room c runs′ undo′ room′ c′ → c′ .first + c′ .uncommitted + c′ .waiting ≤ 64
+  pub commit-begun : eqb (v .kind) 1 ≡ false → eqb (v .kind) 2 ≡ true → (runs′ undo′ room′ : List ℕ) (c′ : Course) → Committed live₀ runs undo room c runs′ undo′ room′ c′ → c′ .first + c′ .counts .uncommitted + c′ .counts .waiting ≤ 64
       → Begun σ live₀ runs′ undo′ room′ cells c′ room (taken σ (request v) e cells)
   commit-begun a b runs′ undo′ room′ c′ cm k =
       subst (λ (q : Request). Begun σ live₀ runs′ undo′ room′ cells c′ room (taken σ q e cells)) (sym (request-decides v true a b))
       (begun-committed σ live₀ runs undo room runs′ undo′ room′ cells c c′ (e .count) (e .largest) (e .uncommitted) (e .waiting) (v .number) (rd .work) (parts σ live₀ runs undo room cells c v e rd) (decided σ live₀ runs undo room cells c v e rd a) cm k)
 
-  pub continue-begun : eqb (v .kind) 1 ≡ true → frontIs (c .uncommitted) live₀ (v .number) ≡ true → (runs′ undo′ room′ : List ℕ) (cells′ : Cells) (c′ : Counts) → Continued live₀ runs undo room cells c (v .fragment) runs′ undo′ room′ cells′ c′
-      → c′ .first + c′ .uncommitted + c′ .waiting ≤ 64 → Begun σ live₀ runs′ undo′ room′ cells′ c′ room (taken σ (request v) e cells)
+  pub continue-begun : eqb (v .kind) 1 ≡ true → frontIs (c .counts .uncommitted) live₀ (v .number) ≡ true → (runs′ undo′ room′ : List ℕ) (cells′ : Cells) (c′ : Course) → Continued live₀ runs undo room cells c (v .fragment) runs′ undo′ room′ cells′ c′
+      → c′ .first + c′ .counts .uncommitted + c′ .counts .waiting ≤ 64 → Begun σ live₀ runs′ undo′ room′ cells′ c′ room (taken σ (request v) e cells)
   continue-begun a fr runs′ undo′ room′ cells′ c′ cn k =
       subst (λ (q : Request). Begun σ live₀ runs′ undo′ room′ cells′ c′ room (taken σ q e cells)) (sym (request-arrive v a))
       (go (e .uncommitted) (rd .work) (parts σ live₀ runs undo room cells c v e rd) (rd .passed .eight) (rd .passed .eleven) (sym (front-back live₀ runs undo room c (e .uncommitted) (e .waiting) (v .number) (rd .work)) ∙ fr))
@@ -261,7 +261,7 @@ module _ (σ : Scheme) (live₀ runs undo room : List ℕ) (cells : Cells) (c : 
           (leb-false mostFragments (u .ran) (and-if (eqb (u .number) (v .number)) (leb mostFragments (u .ran)) h (and-if (eqb (v .kind) 1) _ a p11)))
           (arrives-storable e (callOf σ v cells room) a (rd .passed)) (rd .words) cn k)
 
-  pub join-begun : eqb (v .kind) 1 ≡ true → frontIs (c .uncommitted) live₀ (v .number) ≡ false → (live′ : List ℕ) (c′ : Counts) → live′ ≡ sets live₀ (liveWidth * (c .first + c .uncommitted + c .waiting)) (rowWords (v .number) (v .fragment)) → c′ ≡ waitingMore c
+  pub join-begun : eqb (v .kind) 1 ≡ true → frontIs (c .counts .uncommitted) live₀ (v .number) ≡ false → (live′ : List ℕ) (c′ : Course) → live′ ≡ sets live₀ (liveWidth * (c .first + c .counts .uncommitted + c .counts .waiting)) (rowWords (v .number) (v .fragment)) → c′ ≡ waitingMore c
       → Begun σ live′ runs undo room cells c′ room (taken σ (request v) e cells)
   join-begun a fr live′ c′ el ec =
       subst (λ (q : Request). Begun σ live′ runs undo room cells c′ room (taken σ q e cells)) (sym (request-arrive v a))

@@ -11,7 +11,7 @@ use lib.Seq.{sets}
 use Rattle.model.specs.Limits.{leastRoom, mostCells}
 use Rattle.model.specs.Operations.{Cells, pick}
 use Rattle.model.specs.Transactions.{Uncommitted, Waiting, Engine, allWords, filled}
-use Rattle.model.specs.Steps.{Queues, requeued}
+use Rattle.model.specs.Steps.{Queues}
 use Rattle.model.specs.Refusals.{Call, Stepped, Request, Arrive, Commit, Abort, refusal, request, taken, new, largestAfter, respond, step}
 use Rattle.model.specs.Refusals as Refusals
 use Rattle.model.specs.declared.Event.{Event}
@@ -19,20 +19,22 @@ use Rattle.model.specs.declared.Scheme.{Scheme}
 use Rattle.model.proofs.Branches.{request-cases}
 use Rattle.model.proofs.Passing.{passed}
 use Rattle.refusals.specs.Rest.{callOf}
+use Rattle.record.specs.declared.Counts.{Counts}
 use Rattle.record.specs.declared.Record.{Record}
-use Rattle.record.specs.Words.{pack, allRows, allRuns, liveRows}
+use Rattle.record.specs.Ends.{largestAt, largestBy}
+use Rattle.record.specs.Words.{pack, allRows, allRuns, rowOf, liveRows}
 use Rattle.record.specs.View.{numbersFrom, zeros, uncommittedOf, waitingOf, viewOf, view}
 use Rattle.record.proofs.Rows.{shift-padded}
 use Rattle.record.proofs.Back.{length-rows, rows-append, eights-first}
 use Rattle.operations.specs.Laid.{padded}
 use Rattle.tidy.specs.Tidied.{Canonical}
 use Rattle.engine.specs.Work.{Work, Left}
-use Rattle.engine.specs.declared.counts.Counts.{Counts}
-use Rattle.engine.specs.Called.{stepped, nextOf, called, cellsAfter, roomAfter, freshOf}
-use Rattle.engine.specs.Ready.{Ready, largestBy}
+use Rattle.engine.specs.declared.course.Course.{Course}
+use Rattle.engine.specs.Called.{stepped, nextOf, called, cellsAfter, roomAfter, freshOf, recordBy}
+use Rattle.engine.specs.Ready.{Ready}
 use Rattle.engine.specs.declared.Called.{Called}
 use Rattle.engine.specs.declared.Fresh.{Fresh}
-use Rattle.engine.proofs.Viewed.{First, view-count, view-waits, view-first, view-waiting}
+use Rattle.record.proofs.Viewed.{First, view-count, view-waits, view-first, view-waiting}
 use Rattle.model.specs.Parts.{All, Passed}
 use Rattle.record.specs.Fitting.{Eight}
 use Rattle.record.specs.Widths.{liveWidth, liveLength, runsLength, undoLength}
@@ -66,12 +68,11 @@ rows-of [] ws k e = e
 rows-of (u ∷ us) ws k e = (k .0, rows-of us ws (k .1) e)
 
 -- what the checks and the tidying leave is ready for the steps
-pub ready : (σ : Scheme) (r : Record) (v : Event) (cells room : List ℕ) (n : ℕ) (live runs undo : List ℕ) → refusal (view r) (callOf σ v cells room) ≡ 0
-    → Canonical (uncommittedOf (r .live) 0 (r .runs) 0 (r .undo) 0 (r .uncommitted)) (waitingOf (r .live) (liveWidth * r .uncommitted) (r .waiting)) n live runs undo
-    → length (v .fragment .row) ≡ 8
-    → Ready σ live runs undo room cells (record { first = 0; uncommitted = r .uncommitted; waiting = r .waiting; entries = n; answers = 0 }) v (view r)
+pub ready : (σ : Scheme) (r : Record) (v : Event) (cells room : List ℕ) (n top : ℕ) (k : Counts) (live runs undo : List ℕ) → refusal (view r) (callOf σ v cells room) ≡ 0
+    → Canonical (uncommittedOf (r .live) 0 (r .runs) 0 (r .undo) 0 (r .counts .uncommitted)) (waitingOf (r .live) (liveWidth * r .counts .uncommitted) (r .counts .waiting)) n live runs undo
+    → length (v .fragment .row) ≡ 8 → k ≡ largestAt (r .counts) top → Ready σ live runs undo room cells (record { counts = k; first = 0; entries = n; answers = 0 }) v (view r)
 unfolding viewOf
-ready σ r v cells room n live runs undo z t h =
+ready σ r v cells room n top k live runs undo z t h ek =
     let p : Passed (view r) (callOf σ v cells room) = passed (view r) (callOf σ v cells room) z in
     record {
       work = record {
@@ -80,8 +81,8 @@ ready σ r v cells room n live runs undo z t h =
         at-undo = t .undo;
         at-room = filled-none room;
         first = refl;
-        uncommitted = view-count r;
-        waiting = view-waits r;
+        uncommitted = view-count r ∙ sym (ap (λ (x : Counts). x .uncommitted) ek);
+        waiting = view-waits r ∙ sym (ap (λ (x : Counts). x .waiting) ek);
         entries = sym (t .entries);
         answers = refl;
         eights = rows-of (view r .uncommitted) (view r .waiting) (view-first r) (view-waiting r);
@@ -111,21 +112,23 @@ closed live live′ gone ws k m el eg ea ek em h e =
     let la : length (allRows gone ++ allRows ws) ≡ liveWidth * m = ap length (sym (rows-append gone ws)) ∙ length-rows (gone ++ ws) ea ∙ ap (λ (x : ℕ). liveWidth * x) em in
     e ∙ ap (λ (x : List ℕ). sets x 0 (numbersFrom x (liveWidth * k) (liveWidth * m))) at ∙ shift-padded liveLength (allRows gone) (allRows ws) (liveWidth * k) (liveWidth * m) lg la (omega arith)
 
-pub accepted-call : (σ : Scheme) (r : Record) (v : Event) (cells room : List ℕ) (live live′ runs undo room′ : List ℕ) (cells′ : Cells) (c : Counts) (top : ℕ) → refusal (view r) (callOf σ v cells room) ≡ 0
-    → Left live runs undo room′ c cells′ [] room (taken σ (request v) (view r) cells) → c .first + c .uncommitted + c .waiting ≤ 64
-    → live′ ≡ sets live 0 (numbersFrom live (liveWidth * c .first) (liveWidth * (c .first + c .uncommitted + c .waiting))) → top ≡ largestBy (v .kind) (v .number) (r .largest)
-    → Meets σ r v cells room (record { number = 0; answers = c .answers; next = record { count = r .count; largest = top; uncommitted = c .uncommitted; waiting = c .waiting; live = live′; runs = runs; undo = undo } }) cells′ room′
+pub accepted-call : (σ : Scheme) (r : Record) (v : Event) (cells room : List ℕ) (live live′ runs undo room′ : List ℕ) (cells′ : Cells) (k : Counts) (c : Course) → refusal (view r) (callOf σ v cells room) ≡ 0
+    → Left live runs undo room′ c cells′ [] room (taken σ (request v) (view r) cells) → c .first + c .counts .uncommitted + c .counts .waiting ≤ 64
+    → live′ ≡ sets live 0 (numbersFrom live (liveWidth * c .first) (liveWidth * (c .first + c .counts .uncommitted + c .counts .waiting))) → k ≡ largestAt (r .counts) (largestBy (v .kind) (v .number) (r .counts .largest)) → c .counts .cells ≡ k .cells → c .counts .largest ≡ k .largest
+    → Meets σ r v cells room (record { number = 0; answers = c .answers; next = recordBy (c .counts) live′ runs undo }) cells′ room′
 unfolding pack viewOf
-accepted-call σ r v cells room live live′ runs undo room′ cells′ c top z l h el et =
+accepted-call σ r v cells room live live′ runs undo room′ cells′ k c z l h el ek same top =
     meets-by σ r v cells room _ cells′ room′ 0 z (
       (λ j. record {
         number = 0;
         answers = sym (l .work .answers) j;
         next = record {
-          count = r .count;
-          largest = (et ∙ largest-by v (view r)) j;
-          uncommitted = sym (l .work .uncommitted) j;
-          waiting = sym (l .work .waiting) j;
+          counts = record {
+            cells = (same ∙ ap (λ (x : Counts). x .cells) ek) j;
+            largest = (top ∙ ap (λ (x : Counts). x .largest) ek ∙ largest-by v (view r)) j;
+            uncommitted = sym (l .work .uncommitted) j;
+            waiting = sym (l .work .waiting) j;
+          };
           live = rows j;
           runs = l .work .at-runs j;
           undo = l .work .at-undo j;
@@ -137,15 +140,15 @@ accepted-call σ r v cells room live live′ runs undo room′ cells′ c top z 
     q : Queues
     q = taken σ (request v) (view r) cells
 
-    long : length (l .gone ++ liveRows (q .uncommitted) (q .waiting)) ≡ c .first + c .uncommitted + c .waiting
-    long = omega (arith, length-append (l .gone) (liveRows (q .uncommitted) (q .waiting)), length-append (map requeued (q .uncommitted)) (q .waiting), length-map (q .uncommitted) requeued, l .work .first, l .work .uncommitted, l .work .waiting)
+    long : length (l .gone ++ liveRows (q .uncommitted) (q .waiting)) ≡ c .first + c .counts .uncommitted + c .counts .waiting
+    long = omega (arith, length-append (l .gone) (liveRows (q .uncommitted) (q .waiting)), length-append (map rowOf (q .uncommitted)) (q .waiting), length-map (q .uncommitted) rowOf, l .work .first, l .work .uncommitted, l .work .waiting)
 
     rows : live′ ≡ padded liveLength (allRows (liveRows (q .uncommitted) (q .waiting)))
-    rows = closed live live′ (l .gone) (liveRows (q .uncommitted) (q .waiting)) (c .first) (c .first + c .uncommitted + c .waiting) (l .work .at-live) (eights-first (l .gone) _ (l .work .eights)) (l .work .eights) (l .work .first) long h el
+    rows = closed live live′ (l .gone) (liveRows (q .uncommitted) (q .waiting)) (c .first) (c .first + c .counts .uncommitted + c .counts .waiting) (l .work .at-live) (eights-first (l .gone) _ (l .work .eights)) (l .work .eights) (l .work .first) long h el
 
 -- Starting
 
-pub empty-packed : (n : ℕ) → _≡_ {A = Record} (record { count = n; largest = 0; uncommitted = 0; waiting = 0; live = zeros liveLength; runs = zeros runsLength; undo = zeros undoLength }) (pack (Refusals.empty n))
+pub empty-packed : (n : ℕ) → _≡_ {A = Record} (record { counts = record { cells = n; largest = 0; uncommitted = 0; waiting = 0 }; live = zeros liveLength; runs = zeros runsLength; undo = zeros undoLength }) (pack (Refusals.empty n))
 unfolding pack padded allRows allRuns
 empty-packed n = refl
 

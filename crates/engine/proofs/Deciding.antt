@@ -18,22 +18,22 @@ use Rattle.model.proofs.Chain.{all-map}
 use Rattle.model.proofs.Running.{joinedBy, run-earlier, outcome-earlier, run-few, run-numbers}
 use Rattle.operations.specs.Laid.{padded, flat, entriesOf, laid}
 use Rattle.operations.specs.declared.Ran.{Ran}
-use Rattle.record.specs.Words.{allRows, allRuns, runWords, stateWord, liveRows}
+use Rattle.record.specs.Words.{allRows, allRuns, runWords, stateWord, rowOf, liveRows}
 use Rattle.record.specs.View.{numbersFrom}
 use Rattle.record.proofs.Rows.{shift-padded, lay-padded, numbers-padded}
 use Rattle.record.proofs.Back.{eights-first, eights-rest, number-back, length-runs, length-flat, flat-append, entries-back}
-use Rattle.engine.specs.declared.counts.Counts.{Counts}
-use Rattle.engine.specs.Work.{Work, Fair, Dropped, Settled, Committed, Aborted, Continued, withAnswer}
-use Rattle.rows.specs.Rows.{runRow, stateWordAfter}
-use Rattle.engine.proofs.Rooms.{answered-room, state-word}
+use Rattle.engine.specs.declared.course.Course.{Course}
+use Rattle.engine.specs.Work.{Work, Fair, Dropped, Settled, Committed, Aborted, Continued, leftBy, requeuedAll}
+use Rattle.rows.specs.Rows.{withAnswer, runRow, stateWordAfter}
+use Rattle.rows.proofs.Rooms.{answered-room, state-word}
 use Rattle.engine.proofs.Settling.{first-word, front-runs}
 use Rattle.model.specs.Parts.{All}
 use Rattle.record.specs.Fitting.{Eight, Fit, Known}
 use Rattle.record.specs.Widths.{liveWidth, runWidth, liveLength, runsLength, undoLength}
 
-pub committed-both : (live runs undo room runs₁ undo₁ runs₂ undo₂ room₂ : List ℕ) (c c₁ c₂ : Counts) → Dropped runs undo c runs₁ undo₁ c₁ → Settled live runs₁ undo₁ room c₁ runs₂ undo₂ room₂ c₂ → Committed live runs undo room c runs₂ undo₂ room₂ c₂
+pub committed-both : (live runs undo room runs₁ undo₁ runs₂ undo₂ room₂ : List ℕ) (c c₁ c₂ : Course) → Dropped runs undo c runs₁ undo₁ c₁ → Settled live runs₁ undo₁ room c₁ runs₂ undo₂ room₂ c₂ → Committed live runs undo room c runs₂ undo₂ room₂ c₂
 committed-both live runs undo room runs₁ undo₁ runs₂ undo₂ room₂ c c₁ c₂ one two gone u us ws sent room₀ w k =
-    two (gone ++ (requeued u ∷ [])) us ws sent room₀ (one live room gone u us ws sent room₀ w k) (k .1)
+    two (gone ++ (rowOf u ∷ [])) us ws sent room₀ (one live room gone u us ws sent room₀ w k) (k .1)
 
 -- all of a row shifted out
 emptied : (n : ℕ) (l : List ℕ) (m : ℕ) → length l ≡ m → m ≤ n → sets (padded n l) 0 (numbersFrom (padded n l) m m) ≡ padded n []
@@ -45,25 +45,25 @@ all-entries : (undo : List ℕ) (us : List Undo) (n : ℕ) → undo ≡ padded u
 all-entries undo us n e en =
     (λ i. entriesOf (e i) 0 (sym en i)) ∙ ap (λ (x : List Undo). entriesOf (padded undoLength (flat x)) 0 (length us)) (sym (append-nil us)) ∙ entries-back undoLength [] us [] 0 refl
 
-pub aborted : (runs undo runs′ undo′ : List ℕ) (cells cells′ : Cells) (c c′ : Counts) → Fair c → cells′ ≡ undone (entriesOf undo 0 (c .entries)) cells
-    → runs′ ≡ sets runs 0 (numbersFrom runs (runWidth * c .uncommitted) (runWidth * c .uncommitted)) → undo′ ≡ sets undo 0 (numbersFrom undo (2 * c .entries) (2 * c .entries))
-    → c′ ≡ record { first = c .first + 1; uncommitted = 0; waiting = c .uncommitted - 1 + c .waiting; entries = 0; answers = c .answers } → Aborted runs undo cells c runs′ undo′ cells′ c′
+pub aborted : (runs undo runs′ undo′ : List ℕ) (cells cells′ : Cells) (c c′ : Course) → Fair c → cells′ ≡ undone (entriesOf undo 0 (c .entries)) cells
+    → runs′ ≡ sets runs 0 (numbersFrom runs (runWidth * c .counts .uncommitted) (runWidth * c .counts .uncommitted)) → undo′ ≡ sets undo 0 (numbersFrom undo (2 * c .entries) (2 * c .entries))
+    → c′ ≡ requeuedAll (leftBy c 0) → Aborted runs undo cells c runs′ undo′ cells′ c′
 unfolding allRuns
 aborted runs undo runs′ undo′ cells cells′ c c′ fair es er eu ec live room gone u us ws sent room₀ w k =
     let fits : All Fit (u ∷ us) = all-map Known Fit (λ v h. h .0) (u ∷ us) k in
-    let rows : gone ++ liveRows (u ∷ us) ws ≡ (gone ++ (requeued u ∷ [])) ++ (map requeued us ++ ws) = sym (append-assoc gone (requeued u ∷ []) (map requeued us ++ ws)) in (
+    let rows : gone ++ liveRows (u ∷ us) ws ≡ (gone ++ (rowOf u ∷ [])) ++ (map requeued us ++ ws) = sym (append-assoc gone (rowOf u ∷ []) (map requeued us ++ ws)) in (
       record {
         at-live = w .at-live ∙ ap (λ (x : List Waiting). padded liveLength (allRows x)) rows;
-        at-runs = er ∙ ap (λ (x : List ℕ). sets x 0 (numbersFrom x (runWidth * c .uncommitted) (runWidth * c .uncommitted))) (w .at-runs)
-            ∙ emptied runsLength (allRuns (u ∷ us)) (runWidth * c .uncommitted) (length-runs (u ∷ us) fits ∙ ap (λ (x : ℕ). runWidth * x) (w .uncommitted)) (omega (arith, fair .depth));
+        at-runs = er ∙ ap (λ (x : List ℕ). sets x 0 (numbersFrom x (runWidth * c .counts .uncommitted) (runWidth * c .counts .uncommitted))) (w .at-runs)
+            ∙ emptied runsLength (allRuns (u ∷ us)) (runWidth * c .counts .uncommitted) (length-runs (u ∷ us) fits ∙ ap (λ (x : ℕ). runWidth * x) (w .uncommitted)) (omega (arith, fair .depth));
         at-undo = eu ∙ ap (λ (x : List ℕ). sets x 0 (numbersFrom x (2 * c .entries) (2 * c .entries))) (w .at-undo)
             ∙ emptied undoLength (flat (undoList (u ∷ us))) (2 * c .entries) (length-flat (undoList (u ∷ us)) ∙ ap (λ (x : ℕ). 2 * x) (w .entries)) (omega (arith, fair .entries));
         at-room = w .at-room;
-        first = length-append gone (requeued u ∷ []) ∙ ap (λ (x : ℕ). x + 1) (w .first) ∙ sym (ap (λ (x : Counts). x .first) ec);
-        uncommitted = sym (ap (λ (x : Counts). x .uncommitted) ec);
-        waiting = length-append (map requeued us) ws ∙ omega (arith, length-map us requeued, w .uncommitted, w .waiting, ap (λ (x : Counts). x .waiting) ec);
-        entries = sym (ap (λ (x : Counts). x .entries) ec);
-        answers = w .answers ∙ sym (ap (λ (x : Counts). x .answers) ec);
+        first = length-append gone (rowOf u ∷ []) ∙ ap (λ (x : ℕ). x + 1) (w .first) ∙ sym (ap (λ (x : Course). x .first) ec);
+        uncommitted = sym (ap (λ (x : Course). x .counts .uncommitted) ec);
+        waiting = length-append (map requeued us) ws ∙ omega (arith, length-map us requeued, w .uncommitted, w .waiting, ap (λ (x : Course). x .counts .waiting) ec);
+        entries = sym (ap (λ (x : Course). x .entries) ec);
+        answers = w .answers ∙ sym (ap (λ (x : Course). x .answers) ec);
         eights = subst (All Eight) rows (w .eights);
         enough = w .enough;
       },
@@ -88,12 +88,12 @@ first-is : (u : Uncommitted) → getD (runWords u) 0 0 ≡ u .ran
 unfolding runWords
 first-is u = refl
 
-module _ (live runs undo room runs′ undo′ room′ : List ℕ) (cells cells′ : Cells) (c c′ : Counts) (f : Fragment) (number ran before state entries : ℕ) (la : Bool) (r : Ran) (w : List ℕ)
-    (fair : Fair c) (some : 0 < c .uncommitted) (en : number ≡ getD live (liveWidth * c .first) 0) (er : r ≡ laid (run f cells [])) (ec : cells′ ≡ run f cells (entriesOf undo 0 (c .entries)) .cells)
+module _ (live runs undo room runs′ undo′ room′ : List ℕ) (cells cells′ : Cells) (c c′ : Course) (f : Fragment) (number ran before state entries : ℕ) (la : Bool) (r : Ran) (w : List ℕ)
+    (fair : Fair c) (some : 0 < c .counts .uncommitted) (en : number ≡ getD live (liveWidth * c .first) 0) (er : r ≡ laid (run f cells [])) (ec : cells′ ≡ run f cells (entriesOf undo 0 (c .entries)) .cells)
     (eran : ran ≡ getD runs 0 0) (ebefore : before ≡ min ran 7) (ela : la ≡ last f) (est : state ≡ stateWordAfter la (r .place)) (een : entries ≡ pick (eqb (r .place) 0) (c .entries + r .entries) 0)
     (eu : undo′ ≡ pick (eqb (r .place) 0) (sets undo (2 * c .entries) (numbersFrom (r .undo) 0 (2 * r .entries))) (sets undo 0 (numbersFrom undo (2 * c .entries) (2 * c .entries))))
     (ew : w ≡ runRow (before + 1) state 0 entries 0 0 (replicate 8 0)) (eruns : runs′ ≡ sets runs 0 w) (eroom : room′ ≡ withAnswer (c .answers) number 0 r room)
-    (ecounts : c′ ≡ record { first = c .first; uncommitted = c .uncommitted; waiting = c .waiting; entries = entries; answers = c .answers + 1 }) where
+    (ecounts : c′ ≡ record { counts = c .counts; first = c .first; entries = entries; answers = c .answers + 1 }) where
   pub continued : Continued live runs undo room cells c f runs′ undo′ room′ cells′ c′
   unfolding laid
   continued gone u ws sent room₀ k kn few-ran eight few = (
@@ -102,11 +102,11 @@ module _ (live runs undo room runs′ undo′ room′ : List ℕ) (cells cells�
       at-runs = front-runs u [] runs (kn, tt) (k .at-runs) v w runs′ (omega arith) run-is eruns;
       at-undo = undo-is;
       at-room = room-is;
-      first = k .first ∙ sym (ap (λ (x : Counts). x .first) ecounts);
-      uncommitted = k .uncommitted ∙ sym (ap (λ (x : Counts). x .uncommitted) ecounts);
-      waiting = k .waiting ∙ sym (ap (λ (x : Counts). x .waiting) ecounts);
-      entries = ap length (append-nil (run f cells (u .undo) .undo)) ∙ sym entries-is ∙ sym (ap (λ (x : Counts). x .entries) ecounts);
-      answers = length-append sent (answer (u .number) 0 (run f cells (u .undo) .outcome) ∷ []) ∙ ap (λ (x : ℕ). x + 1) (k .answers) ∙ sym (ap (λ (x : Counts). x .answers) ecounts);
+      first = k .first ∙ sym (ap (λ (x : Course). x .first) ecounts);
+      uncommitted = k .uncommitted ∙ sym (ap (λ (x : Course). x .counts .uncommitted) ecounts);
+      waiting = k .waiting ∙ sym (ap (λ (x : Course). x .counts .waiting) ecounts);
+      entries = ap length (append-nil (run f cells (u .undo) .undo)) ∙ sym entries-is ∙ sym (ap (λ (x : Course). x .entries) ecounts);
+      answers = length-append sent (answer (u .number) 0 (run f cells (u .undo) .outcome) ∷ []) ∙ ap (λ (x : ℕ). x + 1) (k .answers) ∙ sym (ap (λ (x : Course). x .answers) ecounts);
       eights = k .eights;
       enough = k .enough;
     },
@@ -179,7 +179,7 @@ module _ (live runs undo room runs′ undo′ room′ : List ℕ) (cells cells�
       number-is : number ≡ u .number
       number-is =
           en ∙ ap (λ (l : List ℕ). getD l (liveWidth * c .first) 0) (k .at-live)
-          ∙ number-back liveLength gone (requeued u) (liveRows [] ws) (liveWidth * c .first) (eights-first gone (liveRows (u ∷ []) ws) (k .eights)) (eights-rest gone (liveRows (u ∷ []) ws) (k .eights) .0) (ap (λ (x : ℕ). liveWidth * x) (k .first))
+          ∙ number-back liveLength gone (rowOf u) (liveRows [] ws) (liveWidth * c .first) (eights-first gone (liveRows (u ∷ []) ws) (k .eights)) (eights-rest gone (liveRows (u ∷ []) ws) (k .eights) .0) (ap (λ (x : ℕ). liveWidth * x) (k .first))
 
       room-is : room′ ≡ filled (sent ++ (answer (u .number) 0 (run f cells (u .undo) .outcome) ∷ [])) room₀
       room-is = eroom ∙ ap (λ (n : ℕ). withAnswer (c .answers) n 0 r room) number-is

@@ -25,14 +25,14 @@ use Rattle.operations.specs.declared.Ran.{Ran}
 use Rattle.record.specs.Words.{allRuns, runWords, stateWord}
 use Rattle.record.specs.View.{fragmentAt}
 use Rattle.record.proofs.Back.{known-of, run-read}
-use Rattle.engine.specs.declared.counts.Counts.{Counts}
-use Rattle.engine.specs.Work.{Small, Work, Left, Took, Drained, joinedCounts, settledCounts, withAnswers}
+use Rattle.engine.specs.declared.course.Course.{Course}
+use Rattle.engine.specs.Work.{Small, Work, Left, Took, Drained, joinedBy, settledAtOnce, withAnswers}
 use Rattle.rows.specs.Rows.{blocking, mayTakeRow}
 use Rattle.model.specs.Parts.{All, Sound}
 use Rattle.record.specs.Fitting.{Fit, Known}
 use Rattle.record.specs.Widths.{runWidth, runsLength}
 
--- Counts
+-- Course
 
 pub entries-few : (l : List ℕ) (b : ℕ) (f : Fragment) (cells : Cells) (r : Ran) → f ≡ fragmentAt l b → r ≡ laid (run f cells []) → r .entries ≤ 8
 unfolding laid fragmentAt operations
@@ -41,28 +41,28 @@ entries-few l b f cells r ef er =
     let e : r .entries ≡ length (run (fragmentAt l b) cells [] .undo) = ap (λ (x : Ran). x .entries) (er ∙ ap (λ (x : Fragment). laid (run x cells [])) ef) in
     omega (arith, run-few (fragmentAt l b) cells, length-take (g .count) (g .row))
 
-pub small-taking : (c c′ : Counts) (r : Ran) (a′ : ℕ) (ans joins : Bool) → Small c → 0 < c .waiting → c .uncommitted < 16 → r .entries ≤ 8 → a′ ≡ pick ans (c .answers + 1) (c .answers)
-    → c′ ≡ pick joins (joinedCounts (withAnswers a′ c) r) (settledCounts (withAnswers a′ c)) → Small c′ × (c′ .waiting + 1 ≡ c .waiting)
+pub small-taking : (c c′ : Course) (r : Ran) (a′ : ℕ) (ans joins : Bool) → Small c → 0 < c .counts .waiting → c .counts .uncommitted < 16 → r .entries ≤ 8 → a′ ≡ pick ans (c .answers + 1) (c .answers)
+    → c′ ≡ pick joins (joinedBy (withAnswers a′ c) r) (settledAtOnce (withAnswers a′ c)) → Small c′ × (c′ .counts .waiting + 1 ≡ c .counts .waiting)
 small-taking c c′ r a′ ans joins s w u e ea ec = go joins ec (less ans ea)
   where
     less : (b : Bool) → a′ ≡ pick b (c .answers + 1) (c .answers) → a′ ≤ c .answers + 1
     less true h = omega arith
     less false h = omega arith
 
-    go : (b : Bool) → c′ ≡ pick b (joinedCounts (withAnswers a′ c) r) (settledCounts (withAnswers a′ c)) → a′ ≤ c .answers + 1 → Small c′ × (c′ .waiting + 1 ≡ c .waiting)
+    go : (b : Bool) → c′ ≡ pick b (joinedBy (withAnswers a′ c) r) (settledAtOnce (withAnswers a′ c)) → a′ ≤ c .answers + 1 → Small c′ × (c′ .counts .waiting + 1 ≡ c .counts .waiting)
     go true h k =
-        let h1 : c′ .first ≡ c .first = ap (λ (x : Counts). x .first) h in
-        let h2 : c′ .uncommitted ≡ c .uncommitted + 1 = ap (λ (x : Counts). x .uncommitted) h in
-        let h3 : c′ .waiting ≡ c .waiting - 1 = ap (λ (x : Counts). x .waiting) h in
-        let h4 : c′ .entries ≡ c .entries + r .entries = ap (λ (x : Counts). x .entries) h in
-        let h5 : c′ .answers ≡ a′ = ap (λ (x : Counts). x .answers) h in
+        let h1 : c′ .first ≡ c .first = ap (λ (x : Course). x .first) h in
+        let h2 : c′ .counts .uncommitted ≡ c .counts .uncommitted + 1 = ap (λ (x : Course). x .counts .uncommitted) h in
+        let h3 : c′ .counts .waiting ≡ c .counts .waiting - 1 = ap (λ (x : Course). x .counts .waiting) h in
+        let h4 : c′ .entries ≡ c .entries + r .entries = ap (λ (x : Course). x .entries) h in
+        let h5 : c′ .answers ≡ a′ = ap (λ (x : Course). x .answers) h in
         (record { live = omega (arith, s .live); answers = omega (arith, s .answers); depth = omega arith; entries = omega (arith, s .entries) }, omega arith)
     go false h k =
-        let h1 : c′ .first ≡ c .first + 1 = ap (λ (x : Counts). x .first) h in
-        let h2 : c′ .uncommitted ≡ c .uncommitted = ap (λ (x : Counts). x .uncommitted) h in
-        let h3 : c′ .waiting ≡ c .waiting - 1 = ap (λ (x : Counts). x .waiting) h in
-        let h4 : c′ .entries ≡ c .entries = ap (λ (x : Counts). x .entries) h in
-        let h5 : c′ .answers ≡ a′ = ap (λ (x : Counts). x .answers) h in
+        let h1 : c′ .first ≡ c .first + 1 = ap (λ (x : Course). x .first) h in
+        let h2 : c′ .counts .uncommitted ≡ c .counts .uncommitted = ap (λ (x : Course). x .counts .uncommitted) h ∙ omega arith in
+        let h3 : c′ .counts .waiting ≡ c .counts .waiting - 1 = ap (λ (x : Course). x .counts .waiting) h in
+        let h4 : c′ .entries ≡ c .entries = ap (λ (x : Course). x .entries) h ∙ omega arith in
+        let h5 : c′ .answers ≡ a′ = ap (λ (x : Course). x .answers) h in
         (record { live = omega (arith, s .live); answers = omega (arith, s .answers); depth = omega arith; entries = omega (arith, s .entries) }, omega arith)
 
 -- May the drain go on
@@ -136,7 +136,7 @@ may-take-back Speculation (u ∷ us) runs n k e en = ap (mayTakeRow Speculation 
 
 -- The loop
 
-pub record Mid (σ : Scheme) (live runs undo room : List ℕ) (cells : Cells) (c : Counts) (sent : List Answer) (room₀ : List ℕ) (ct top : ℕ) (whole : Queues) : Type 0 where
+pub record Mid (σ : Scheme) (live runs undo room : List ℕ) (cells : Cells) (c : Course) (sent : List Answer) (room₀ : List ℕ) (ct top : ℕ) (whole : Queues) : Type 0 where
   pub gone : List Waiting
   pub us : List Uncommitted
   pub ws : List Waiting
@@ -147,12 +147,12 @@ pub record Mid (σ : Scheme) (live runs undo room : List ℕ) (cells : Cells) (c
   pub rest : sending more names (Steps.drain σ cells us ws) ≡ sending sent [] whole
 
 -- what the loop keeps: wherever it began with lists, it is in the midst of draining them
-abbrev pub Midst : Scheme → List ℕ → List ℕ → List ℕ → List ℕ → Cells → Counts → List ℕ → List ℕ → List ℕ → Cells → Counts → Type 0
+abbrev pub Midst : Scheme → List ℕ → List ℕ → List ℕ → List ℕ → Cells → Course → List ℕ → List ℕ → List ℕ → Cells → Course → Type 0
 Midst σ live runs undo room cells c runs′ undo′ room′ cells′ c′ =
     (gone : List Waiting) (us : List Uncommitted) (ws : List Waiting) (sent : List Answer) (room₀ : List ℕ) → Work live runs undo room c gone us ws sent room₀
     → (ct top : ℕ) → Sound ct top us ws → Mid σ live runs′ undo′ room′ cells′ c′ sent room₀ ct top (Steps.drain σ cells us ws)
 
-pub midst-start : (σ : Scheme) (live runs undo room : List ℕ) (cells : Cells) (c : Counts) → Midst σ live runs undo room cells c runs undo room cells c
+pub midst-start : (σ : Scheme) (live runs undo room : List ℕ) (cells : Cells) (c : Course) → Midst σ live runs undo room cells c runs undo room cells c
 midst-start σ live runs undo room cells c gone us ws sent room₀ w ct top s = record { gone = gone; us = us; ws = ws; more = sent; names = []; work = w; sound = s; rest = refl }
 
 drain-takes : (σ : Scheme) (cs : Cells) (us : List Uncommitted) (w : Waiting) (ws : List Waiting) → mayTake σ us ≡ true
@@ -172,8 +172,8 @@ drain-stays σ cs us (w ∷ ws) (inr e) =
 sending-more : (a b : List Answer) (m n : List ℕ) (q : Queues) → sending (a ++ b) (m ++ n) q ≡ sending a m (sending b n q)
 sending-more a b m n q = λ i. record { cells = q .cells; uncommitted = q .uncommitted; waiting = q .waiting; answers = append-assoc a b (q .answers) i; settles = append-assoc m n (q .settles) i }
 
-module _ (σ : Scheme) (live runs₀ undo₀ room₀ : List ℕ) (cells₀ : Cells) (c₀ : Counts) (runs undo room : List ℕ) (cells : Cells) (c : Counts) (mid : Midst σ live runs₀ undo₀ room₀ cells₀ c₀ runs undo room cells c) where
-  pub midst-turn : 0 < c .waiting → mayTakeRow σ runs (c .uncommitted) ≡ true → (runs′ undo′ room′ : List ℕ) (cells′ : Cells) (c′ : Counts) → Took live runs undo room cells c runs′ undo′ room′ cells′ c′
+module _ (σ : Scheme) (live runs₀ undo₀ room₀ : List ℕ) (cells₀ : Cells) (c₀ : Course) (runs undo room : List ℕ) (cells : Cells) (c : Course) (mid : Midst σ live runs₀ undo₀ room₀ cells₀ c₀ runs undo room cells c) where
+  pub midst-turn : 0 < c .counts .waiting → mayTakeRow σ runs (c .counts .uncommitted) ≡ true → (runs′ undo′ room′ : List ℕ) (cells′ : Cells) (c′ : Course) → Took live runs undo room cells c runs′ undo′ room′ cells′ c′
       → Midst σ live runs₀ undo₀ room₀ cells₀ c₀ runs′ undo′ room′ cells′ c′
   midst-turn h take runs′ undo′ room′ cells′ c′ took gone us ws sent r₀ w ct top s =
       let m = mid gone us ws sent r₀ w ct top s in
@@ -184,7 +184,7 @@ module _ (σ : Scheme) (live runs₀ undo₀ room₀ : List ℕ) (cells₀ : Cel
       go (x ∷ l) m e =
           let wk : Work live runs undo room c (m .gone) (m .us) (x ∷ l) (m .more) r₀ = subst (λ (y : List Waiting). Work live runs undo room c (m .gone) (m .us) y (m .more) r₀) e (m .work) in
           let sd : Sound ct top (m .us) (x ∷ l) = subst (λ (y : List Waiting). Sound ct top (m .us) y) e (m .sound) in
-          let tk : mayTake σ (m .us) ≡ true = sym (may-take-back σ (m .us) runs (c .uncommitted) (known-of ct (m .us) (m .sound .each)) (m .work .at-runs) (m .work .uncommitted)) ∙ take in
+          let tk : mayTake σ (m .us) ≡ true = sym (may-take-back σ (m .us) runs (c .counts .uncommitted) (known-of ct (m .us) (m .sound .each)) (m .work .at-runs) (m .work .uncommitted)) ∙ take in
           let t = took (m .gone) (m .us) x l (m .more) r₀ wk ct top sd σ tk in
           record {
             gone = t .gone;
@@ -199,7 +199,7 @@ module _ (σ : Scheme) (live runs₀ undo₀ room₀ : List ℕ) (cells₀ : Cel
                 ∙ ap (sending (m .more) (m .names)) (sym (drain-takes σ cells (m .us) x l tk) ∙ ap (Steps.drain σ cells (m .us)) (sym e)) ∙ m .rest;
           }
 
-  pub midst-end : (c .waiting ≡ 0) ⊎ (mayTakeRow σ runs (c .uncommitted) ≡ false) → Drained σ live runs₀ undo₀ room₀ cells₀ c₀ runs undo room cells c
+  pub midst-end : (c .counts .waiting ≡ 0) ⊎ (mayTakeRow σ runs (c .counts .uncommitted) ≡ false) → Drained σ live runs₀ undo₀ room₀ cells₀ c₀ runs undo room cells c
   midst-end stop gone us ws sent r₀ w ct top s =
       let m = mid gone us ws sent r₀ w ct top s in
       let stays : Steps.drain σ cells (m .us) (m .ws) ≡ record { cells = cells; uncommitted = m .us; waiting = m .ws; answers = []; settles = [] } = drain-stays σ cells (m .us) (m .ws) (why m stop) in
@@ -215,13 +215,13 @@ module _ (σ : Scheme) (live runs₀ undo₀ room₀ : List ℕ) (cells₀ : Cel
       finish g us₁ ws₁ as₁ as₂ us₂ ws₂ eu ew ea k =
           subst (λ (x : List Answer). Work live runs undo room c g us₂ ws₂ x r₀) ea (subst₂ (λ (x : List Uncommitted) (y : List Waiting). Work live runs undo room c g x y as₁ r₀) eu ew k)
 
-      why : (m : Mid σ live runs undo room cells c sent r₀ ct top (Steps.drain σ cells₀ us ws)) → (c .waiting ≡ 0) ⊎ (mayTakeRow σ runs (c .uncommitted) ≡ false) → (m .ws ≡ []) ⊎ (mayTake σ (m .us) ≡ false)
+      why : (m : Mid σ live runs undo room cells c sent r₀ ct top (Steps.drain σ cells₀ us ws)) → (c .counts .waiting ≡ 0) ⊎ (mayTakeRow σ runs (c .counts .uncommitted) ≡ false) → (m .ws ≡ []) ⊎ (mayTake σ (m .us) ≡ false)
       why m (inl z) = inl (none (m .ws) (m .work .waiting ∙ z))
         where
           none : (l : List Waiting) → length l ≡ 0 → l ≡ []
           none [] h = refl
           none (x ∷ l) h = absurd (omega arith)
-      why m (inr z) = inr (sym (may-take-back σ (m .us) runs (c .uncommitted) (known-of ct (m .us) (m .sound .each)) (m .work .at-runs) (m .work .uncommitted)) ∙ z)
+      why m (inr z) = inr (sym (may-take-back σ (m .us) runs (c .counts .uncommitted) (known-of ct (m .us) (m .sound .each)) (m .work .at-runs) (m .work .uncommitted)) ∙ z)
 
 -- where the drain may go on, fewer than 16 are uncommitted
 pub room-under : (σ : Scheme) (runs : List ℕ) (n : ℕ) → mayTakeRow σ runs n ≡ true → n < 16

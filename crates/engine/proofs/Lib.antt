@@ -1,6 +1,5 @@
 pub mod Unique
-pub mod Viewed
-pub mod Rooms
+pub mod Staying
 pub mod Placing
 pub mod Draining
 pub mod Settling

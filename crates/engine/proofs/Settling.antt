@@ -12,20 +12,20 @@ use lib.Seq.{sets, sets-eq, take-at, drop-at, drop-append-add, getD-append-add}
 use Rattle.model.specs.Limits.{leastRoom, answerWords}
 use Rattle.model.specs.Operations.{Outcome, pick, multi}
 use Rattle.model.specs.Transactions.{Reply, Held, Sent, NoReply, Uncommitted, Waiting, Answer, answer, words, undoList, filled, front}
-use Rattle.model.specs.Steps.{requeued, heldBy, sent, Place, settled}
+use Rattle.model.specs.Steps.{heldBy, sent, Place, settled}
 use Rattle.model.specs.Refusals.{isReply}
 use Rattle.model.specs.declared.Undo.{Undo}
 use Rattle.model.proofs.Chain.{all-append, all-map}
 use Rattle.operations.specs.Laid.{padded, flat}
 use Rattle.operations.proofs.Turns.{length-padded}
-use Rattle.record.specs.Words.{rowWords, allRows, stateWord, replyWord, heldOutcome, outcomeWords, runWords, allRuns, liveRows}
+use Rattle.record.specs.Words.{rowWords, allRows, stateWord, replyWord, heldOutcome, outcomeWords, runWords, allRuns, rowOf, liveRows}
 use Rattle.record.specs.View.{numbersFrom}
 use Rattle.record.proofs.Rows.{shift-padded, numbers-same, numbers-whole, getD-padded}
-use Rattle.record.proofs.Back.{eights-first, eights-rest, row-read, number-back, length-run, length-runs, run-read, length-flat, flat-append, block-read}
-use Rattle.engine.specs.declared.counts.Counts.{Counts}
-use Rattle.engine.specs.Work.{Work, Fair, Dropped, SettledOne, SettledTo, Singles, Fronted, Settled, withAnswers}
+use Rattle.record.proofs.Back.{eights-first, eights-rest, row-read, number-back, length-run, length-runs, run-read, length-flat, flat-append}
+use Rattle.engine.specs.declared.course.Course.{Course}
+use Rattle.engine.specs.Work.{Work, Fair, Dropped, SettledOne, SettledTo, Singles, Fronted, Settled, leftBy, withAnswers}
 use Rattle.rows.specs.Rows.{holdsRow, heldRow, multiRow, sentRow, runRow}
-use Rattle.engine.proofs.Rooms.{answer-row, length-words, room-more}
+use Rattle.rows.proofs.Rooms.{answer-row, length-words, room-more}
 use Rattle.model.specs.Parts.{All}
 use Rattle.record.specs.Fitting.{Eight, Fit, Known}
 use Rattle.record.specs.Widths.{liveWidth, runWidth, liveLength, runsLength, undoLength}
@@ -50,9 +50,9 @@ sets-front x z w e =
 
 -- The first of the queue leaves it
 
-pub dropped : (runs undo runs′ undo′ : List ℕ) (c c′ : Counts) (own e : ℕ) → Fair c → own ≡ getD runs 3 0 → e ≡ min own (c .entries)
-    → runs′ ≡ sets runs 0 (numbersFrom runs runWidth (runWidth * c .uncommitted)) → undo′ ≡ sets undo 0 (numbersFrom undo (2 * e) (2 * c .entries))
-    → c′ ≡ record { first = c .first + 1; uncommitted = c .uncommitted - 1; waiting = c .waiting; entries = c .entries - e; answers = c .answers }
+pub dropped : (runs undo runs′ undo′ : List ℕ) (c c′ : Course) (own e : ℕ) → Fair c → own ≡ getD runs 3 0 → e ≡ min own (c .entries)
+    → runs′ ≡ sets runs 0 (numbersFrom runs runWidth (runWidth * c .counts .uncommitted)) → undo′ ≡ sets undo 0 (numbersFrom undo (2 * e) (2 * c .entries))
+    → c′ ≡ leftBy c e
     → Dropped runs undo c runs′ undo′ c′
 unfolding allRuns
 dropped runs undo runs′ undo′ c c′ own e fair eo ee er eu ec live room gone u us ws sent room₀ w k =
@@ -61,22 +61,22 @@ dropped runs undo runs′ undo′ c c′ own e fair eo ee er eu ec live room gon
     let own-is : own ≡ length (u .undo) = eo ∙ ap (λ (l : List ℕ). getD l 3 0) (w .at-runs) ∙ run-read runsLength [] u us 0 3 tt (fits .0) refl (omega arith) ∙ run-word-3 u in
     let total : c .entries ≡ length (u .undo) + length (undoList us) = sym (w .entries) ∙ length-append (u .undo) (undoList us) in
     let e-is : e ≡ length (u .undo) = ee ∙ omega arith in
-    let nu : suc (length us) ≡ c .uncommitted = w .uncommitted in
-    let all-length : length (runWords u ++ allRuns us) ≡ runWidth * c .uncommitted = length-runs (u ∷ us) fits ∙ ap (λ (x : ℕ). runWidth * x) (w .uncommitted) in
+    let nu : suc (length us) ≡ c .counts .uncommitted = w .uncommitted in
+    let all-length : length (runWords u ++ allRuns us) ≡ runWidth * c .counts .uncommitted = length-runs (u ∷ us) fits ∙ ap (λ (x : ℕ). runWidth * x) (w .uncommitted) in
     let flat-is : flat (undoList (u ∷ us)) ≡ flat (u .undo) ++ flat (undoList us) = flat-append (u .undo) (undoList us) in
-    let rows : gone ++ liveRows (u ∷ us) ws ≡ (gone ++ (requeued u ∷ [])) ++ liveRows us ws = sym (append-assoc gone (requeued u ∷ []) (liveRows us ws)) in
+    let rows : gone ++ liveRows (u ∷ us) ws ≡ (gone ++ (rowOf u ∷ [])) ++ liveRows us ws = sym (append-assoc gone (rowOf u ∷ []) (liveRows us ws)) in
     record {
       at-live = w .at-live ∙ ap (λ (x : List Waiting). padded liveLength (allRows x)) rows;
-      at-runs = er ∙ ap (λ (x : List ℕ). sets x 0 (numbersFrom x runWidth (runWidth * c .uncommitted))) (w .at-runs) ∙ shift-padded runsLength (runWords u) (allRuns us) 16 (runWidth * c .uncommitted) lu all-length (omega (arith, fair .depth));
+      at-runs = er ∙ ap (λ (x : List ℕ). sets x 0 (numbersFrom x runWidth (runWidth * c .counts .uncommitted))) (w .at-runs) ∙ shift-padded runsLength (runWords u) (allRuns us) 16 (runWidth * c .counts .uncommitted) lu all-length (omega (arith, fair .depth));
       at-undo = eu ∙ (λ i. sets (w .at-undo i) 0 (numbersFrom (w .at-undo i) (2 * e-is i) (2 * c .entries)))
           ∙ ap (λ (x : List ℕ). sets (padded undoLength x) 0 (numbersFrom (padded undoLength x) (2 * length (u .undo)) (2 * c .entries))) flat-is
           ∙ shift-padded undoLength (flat (u .undo)) (flat (undoList us)) (2 * length (u .undo)) (2 * c .entries) (length-flat (u .undo)) (sym (ap length flat-is) ∙ length-flat (undoList (u ∷ us)) ∙ ap (λ (x : ℕ). 2 * x) (w .entries)) (omega (arith, fair .entries));
       at-room = w .at-room;
-      first = length-append gone (requeued u ∷ []) ∙ ap (λ (x : ℕ). x + 1) (w .first) ∙ sym (ap (λ (x : Counts). x .first) ec);
-      uncommitted = omega (arith, w .uncommitted, ap (λ (x : Counts). x .uncommitted) ec);
-      waiting = w .waiting ∙ sym (ap (λ (x : Counts). x .waiting) ec);
-      entries = omega (arith, total, e-is, ap (λ (x : Counts). x .entries) ec);
-      answers = w .answers ∙ sym (ap (λ (x : Counts). x .answers) ec);
+      first = length-append gone (rowOf u ∷ []) ∙ ap (λ (x : ℕ). x + 1) (w .first) ∙ sym (ap (λ (x : Course). x .first) ec);
+      uncommitted = omega (arith, w .uncommitted, ap (λ (x : Course). x .counts .uncommitted) ec);
+      waiting = w .waiting ∙ sym (ap (λ (x : Course). x .counts .waiting) ec);
+      entries = omega (arith, total, e-is, ap (λ (x : Course). x .entries) ec);
+      answers = w .answers ∙ sym (ap (λ (x : Course). x .answers) ec);
       eights = subst (All Eight) rows (w .eights);
       enough = w .enough;
     }
@@ -162,14 +162,14 @@ settled-single u us e =
 
 -- One settles
 
-module _ (live runs undo room runs′ undo′ room′ : List ℕ) (c d c′ : Counts) (number a : ℕ) (fair : Fair c) (some : 0 < c .uncommitted)
+module _ (live runs undo room runs′ undo′ room′ : List ℕ) (c d c′ : Course) (number a : ℕ) (fair : Fair c) (some : 0 < c .counts .uncommitted)
     (en : number ≡ getD live (liveWidth * c .first) 0) (ea : a ≡ pick (holdsRow runs 0) (c .answers + 1) (c .answers))
     (er : room′ ≡ pick (holdsRow runs 0) (sets room (answerWords * c .answers) (heldRow runs 0 number 0)) room) where
   -- the number in the front's row, and its held answer in the room
   front-number : (gone : List Waiting) (u : Uncommitted) (us : List Uncommitted) (ws : List Waiting) (sent : List Answer) (room₀ : List ℕ) → Work live runs undo room c gone (u ∷ us) ws sent room₀ → number ≡ u .number
   front-number gone u us ws sent room₀ w =
       en ∙ ap (λ (l : List ℕ). getD l (liveWidth * c .first) 0) (w .at-live)
-      ∙ number-back liveLength gone (requeued u) (liveRows us ws) (liveWidth * c .first) (eights-first gone (liveRows (u ∷ us) ws) (w .eights)) (eights-rest gone (liveRows (u ∷ us) ws) (w .eights) .0) (ap (λ (x : ℕ). liveWidth * x) (w .first))
+      ∙ number-back liveLength gone (rowOf u) (liveRows us ws) (liveWidth * c .first) (eights-first gone (liveRows (u ∷ us) ws) (w .eights)) (eights-rest gone (liveRows (u ∷ us) ws) (w .eights) .0) (ap (λ (x : ℕ). liveWidth * x) (w .first))
 
   fits : (gone : List Waiting) (u : Uncommitted) (us : List Uncommitted) (ws : List Waiting) (sent : List Answer) (room₀ : List ℕ) → Work live runs undo room c gone (u ∷ us) ws sent room₀ → answerWords * (c .answers + 1) ≤ length room₀
   fits gone u us ws sent room₀ w = omega (arith, w .enough, fair .answers, some)
@@ -182,26 +182,26 @@ module _ (live runs undo room runs′ undo′ room′ : List ℕ) (c d c′ : Co
         at-runs = x .at-runs;
         at-undo = x .at-undo;
         at-room = held-room u us runs k (w .at-runs) sent room room′ room₀ (c .answers) number (front-number gone u us ws sent room₀ w) (w .at-room) (w .answers) (fits gone u us ws sent room₀ w) er;
-        first = x .first ∙ sym (ap (λ (y : Counts). y .first) ec);
-        uncommitted = x .uncommitted ∙ sym (ap (λ (y : Counts). y .uncommitted) ec);
-        waiting = x .waiting ∙ sym (ap (λ (y : Counts). y .waiting) ec);
-        entries = x .entries ∙ sym (ap (λ (y : Counts). y .entries) ec);
-        answers = held-count u us runs k (w .at-runs) sent (c .answers) a (w .answers) ea ∙ sym (ap (λ (y : Counts). y .answers) ec);
+        first = x .first ∙ sym (ap (λ (y : Course). y .first) ec);
+        uncommitted = x .uncommitted ∙ sym (ap (λ (y : Course). y .counts .uncommitted) ec);
+        waiting = x .waiting ∙ sym (ap (λ (y : Course). y .counts .waiting) ec);
+        entries = x .entries ∙ sym (ap (λ (y : Course). y .entries) ec);
+        answers = held-count u us runs k (w .at-runs) sent (c .answers) a (w .answers) ea ∙ sym (ap (λ (y : Course). y .answers) ec);
         eights = x .eights;
         enough = x .enough;
       }
 
-  pub settled-fair : Fair d → d .answers ≡ c .answers → d .uncommitted + 1 ≡ c .uncommitted → d .waiting ≡ c .waiting → c′ ≡ withAnswers a d → Fair c′
+  pub settled-fair : Fair d → d .answers ≡ c .answers → d .counts .uncommitted + 1 ≡ c .counts .uncommitted → d .counts .waiting ≡ c .counts .waiting → c′ ≡ withAnswers a d → Fair c′
   settled-fair f e1 e2 e3 ec = go (holdsRow runs 0) ea
     where
       go : (b : Bool) → a ≡ pick b (c .answers + 1) (c .answers) → Fair c′
       go b h =
           let less : a ≤ c .answers + 1 = under b h in
-          let h1 : c′ .first ≡ d .first = ap (λ (y : Counts). y .first) ec in
-          let h2 : c′ .uncommitted ≡ d .uncommitted = ap (λ (y : Counts). y .uncommitted) ec in
-          let h3 : c′ .waiting ≡ d .waiting = ap (λ (y : Counts). y .waiting) ec in
-          let h4 : c′ .entries ≡ d .entries = ap (λ (y : Counts). y .entries) ec in
-          let h5 : c′ .answers ≡ a = ap (λ (y : Counts). y .answers) ec in
+          let h1 : c′ .first ≡ d .first = ap (λ (y : Course). y .first) ec in
+          let h2 : c′ .counts .uncommitted ≡ d .counts .uncommitted = ap (λ (y : Course). y .counts .uncommitted) ec in
+          let h3 : c′ .counts .waiting ≡ d .counts .waiting = ap (λ (y : Course). y .counts .waiting) ec in
+          let h4 : c′ .entries ≡ d .entries = ap (λ (y : Course). y .entries) ec in
+          let h5 : c′ .answers ≡ a = ap (λ (y : Course). y .answers) ec in
           record { live = omega (arith, f .live); answers = omega (arith, fair .answers); depth = omega (arith, f .depth); entries = omega (arith, f .entries) }
         where
           under : (b : Bool) → a ≡ pick b (c .answers + 1) (c .answers) → a ≤ c .answers + 1
@@ -219,11 +219,11 @@ module _ (live runs undo room runs′ undo′ room′ : List ℕ) (c d c′ : Co
         at-runs = sent-runs u us runs k (w .at-runs) runs′ eu;
         at-undo = w .at-undo;
         at-room = held-room u us runs k (w .at-runs) sent′ room room′ room₀ (c .answers) number (front-number gone u us ws sent′ room₀ w) (w .at-room) (w .answers) (fits gone u us ws sent′ room₀ w) er;
-        first = w .first ∙ sym (ap (λ (y : Counts). y .first) ec);
-        uncommitted = w .uncommitted ∙ sym (ap (λ (y : Counts). y .uncommitted) ec);
-        waiting = w .waiting ∙ sym (ap (λ (y : Counts). y .waiting) ec);
-        entries = w .entries ∙ sym (ap (λ (y : Counts). y .entries) ec);
-        answers = held-count u us runs k (w .at-runs) sent′ (c .answers) a (w .answers) ea ∙ sym (ap (λ (y : Counts). y .answers) ec);
+        first = w .first ∙ sym (ap (λ (y : Course). y .first) ec);
+        uncommitted = w .uncommitted ∙ sym (ap (λ (y : Course). y .counts .uncommitted) ec);
+        waiting = w .waiting ∙ sym (ap (λ (y : Course). y .counts .waiting) ec);
+        entries = w .entries ∙ sym (ap (λ (y : Course). y .entries) ec);
+        answers = held-count u us runs k (w .at-runs) sent′ (c .answers) a (w .answers) ea ∙ sym (ap (λ (y : Course). y .answers) ec);
         eights = w .eights;
         enough = w .enough;
       })
@@ -231,24 +231,24 @@ module _ (live runs undo room runs′ undo′ room′ : List ℕ) (c d c′ : Co
 -- Singles settle until a multi is first
 
 -- is the front's row a multi's
-pub front-row : (live runs undo room : List ℕ) (c : Counts) (gone : List Waiting) (u : Uncommitted) (us : List Uncommitted) (ws : List Waiting) (sent : List Answer) (room₀ : List ℕ) → Work live runs undo room c gone (u ∷ us) ws sent room₀
+pub front-row : (live runs undo room : List ℕ) (c : Course) (gone : List Waiting) (u : Uncommitted) (us : List Uncommitted) (ws : List Waiting) (sent : List Answer) (room₀ : List ℕ) → Work live runs undo room c gone (u ∷ us) ws sent room₀
     → multiRow live (liveWidth * c .first) ≡ multi (u .first)
 unfolding rowWords multi
 front-row live runs undo room c gone u us ws sent room₀ w =
     ap (λ (l : List ℕ). multiRow l (liveWidth * c .first)) (w .at-live)
-    ∙ ap (λ (x : ℕ). eqb (x % 2) 1) (row-read liveLength gone (requeued u) (liveRows us ws) (liveWidth * c .first) (eights-first gone (liveRows (u ∷ us) ws) (w .eights)) (eights-rest gone (liveRows (u ∷ us) ws) (w .eights) .0) (ap (λ (x : ℕ). liveWidth * x) (w .first)) 1 (omega arith))
+    ∙ ap (λ (x : ℕ). eqb (x % 2) 1) (row-read liveLength gone (rowOf u) (liveRows us ws) (liveWidth * c .first) (eights-first gone (liveRows (u ∷ us) ws) (w .eights)) (eights-rest gone (liveRows (u ∷ us) ws) (w .eights) .0) (ap (λ (x : ℕ). liveWidth * x) (w .first)) 1 (omega arith))
 
 -- what the loop keeps
-abbrev pub Midway : List ℕ → List ℕ → List ℕ → List ℕ → Counts → List ℕ → List ℕ → List ℕ → Counts → Type 0
+abbrev pub Midway : List ℕ → List ℕ → List ℕ → List ℕ → Course → List ℕ → List ℕ → List ℕ → Course → Type 0
 Midway live runs undo room c runs′ undo′ room′ c′ =
     (gone : List Waiting) (us : List Uncommitted) (ws : List Waiting) (sent : List Answer) (room₀ : List ℕ) → Work live runs undo room c gone us ws sent room₀ → All Known us → SettledTo live runs′ undo′ room′ c′ us ws sent room₀
 
-pub midway-start : (live runs undo room : List ℕ) (c : Counts) → Midway live runs undo room c runs undo room c
+pub midway-start : (live runs undo room : List ℕ) (c : Course) → Midway live runs undo room c runs undo room c
 midway-start live runs undo room c gone us ws sent room₀ w k =
     record { gone = gone; left = us; more = []; names = []; work = subst (λ (x : List Answer). Work live runs undo room c gone us ws x room₀) (sym (append-nil sent)) w; known = k; rest = refl }
 
-module _ (live runs₀ undo₀ room₀ runs undo room : List ℕ) (c₀ c : Counts) (mid : Midway live runs₀ undo₀ room₀ c₀ runs undo room c) where
-  pub midway-turn : 0 < c .uncommitted → multiRow live (liveWidth * c .first) ≡ false → (runs′ undo′ room′ : List ℕ) (c′ : Counts) → SettledOne live runs undo room c runs′ undo′ room′ c′ → Midway live runs₀ undo₀ room₀ c₀ runs′ undo′ room′ c′
+module _ (live runs₀ undo₀ room₀ runs undo room : List ℕ) (c₀ c : Course) (mid : Midway live runs₀ undo₀ room₀ c₀ runs undo room c) where
+  pub midway-turn : 0 < c .counts .uncommitted → multiRow live (liveWidth * c .first) ≡ false → (runs′ undo′ room′ : List ℕ) (c′ : Course) → SettledOne live runs undo room c runs′ undo′ room′ c′ → Midway live runs₀ undo₀ room₀ c₀ runs′ undo′ room′ c′
   midway-turn some single runs′ undo′ room′ c′ one gone us ws sent r₀ w k = let m = mid gone us ws sent r₀ w k in go (m .left) m refl
     where
       go : (l : List Uncommitted) (m : SettledTo live runs undo room c us ws sent r₀) → m .left ≡ l → SettledTo live runs′ undo′ room′ c′ us ws sent r₀
@@ -258,30 +258,30 @@ module _ (live runs₀ undo₀ room₀ runs undo room : List ℕ) (c₀ c : Coun
           let kn : All Known (u ∷ l) = subst (All Known) e (m .known) in
           let sg : multi (u .first) ≡ false = sym (front-row live runs undo room c (m .gone) u l ws (sent ++ m .more) r₀ wk) ∙ single in
           record {
-            gone = m .gone ++ (requeued u ∷ []);
+            gone = m .gone ++ (rowOf u ∷ []);
             left = l;
             more = m .more ++ heldBy u;
             names = m .names ++ (u .number ∷ []);
-            work = subst (λ (x : List Answer). Work live runs′ undo′ room′ c′ (m .gone ++ (requeued u ∷ [])) l ws x r₀) (append-assoc sent (m .more) (heldBy u)) (one (m .gone) u l ws (sent ++ m .more) r₀ wk kn);
+            work = subst (λ (x : List Answer). Work live runs′ undo′ room′ c′ (m .gone ++ (rowOf u ∷ [])) l ws x r₀) (append-assoc sent (m .more) (heldBy u)) (one (m .gone) u l ws (sent ++ m .more) r₀ wk kn);
             known = kn .1;
             rest = m .rest ∙ ap (λ (x : List Uncommitted). record { uncommitted = settled x .uncommitted; answers = m .more ++ settled x .answers; settles = m .names ++ settled x .settles }) e
                 ∙ ap {B = Place} (λ (p : Place). record { uncommitted = p .uncommitted; answers = m .more ++ p .answers; settles = m .names ++ p .settles }) (settled-single u l sg)
                 ∙ (λ i. record { uncommitted = settled l .uncommitted; answers = sym (append-assoc (m .more) (heldBy u) (settled l .answers)) i; settles = sym (append-assoc (m .names) (u .number ∷ []) (settled l .settles)) i });
           }
 
-  pub midway-end : (c .uncommitted ≡ 0) ⊎ (multiRow live (liveWidth * c .first) ≡ true) → Singles live runs₀ undo₀ room₀ c₀ runs undo room c
+  pub midway-end : (c .counts .uncommitted ≡ 0) ⊎ (multiRow live (liveWidth * c .first) ≡ true) → Singles live runs₀ undo₀ room₀ c₀ runs undo room c
   midway-end stop gone us ws sent r₀ w k = let m = mid gone us ws sent r₀ w k in (m, go (m .left) refl m stop)
     where
-      go : (l : List Uncommitted) {m′ : List Uncommitted} → m′ ≡ l → (m : SettledTo live runs undo room c us ws sent r₀) → (c .uncommitted ≡ 0) ⊎ (multiRow live (liveWidth * c .first) ≡ true) → front (λ (u : Uncommitted). not (multi (u .first))) (m .left) ≡ false
+      go : (l : List Uncommitted) {m′ : List Uncommitted} → m′ ≡ l → (m : SettledTo live runs undo room c us ws sent r₀) → (c .counts .uncommitted ≡ 0) ⊎ (multiRow live (liveWidth * c .first) ≡ true) → front (λ (u : Uncommitted). not (multi (u .first))) (m .left) ≡ false
       go l e m s = by (m .left) (m .work) s
         where
-          by : (x : List Uncommitted) → Work live runs undo room c (m .gone) x ws (sent ++ m .more) r₀ → (c .uncommitted ≡ 0) ⊎ (multiRow live (liveWidth * c .first) ≡ true) → front (λ (u : Uncommitted). not (multi (u .first))) x ≡ false
+          by : (x : List Uncommitted) → Work live runs undo room c (m .gone) x ws (sent ++ m .more) r₀ → (c .counts .uncommitted ≡ 0) ⊎ (multiRow live (liveWidth * c .first) ≡ true) → front (λ (u : Uncommitted). not (multi (u .first))) x ≡ false
           by [] w s = refl
           by (u ∷ x) w (inl z) = absurd (omega (arith, w .uncommitted, z))
           by (u ∷ x) w (inr z) = ap not (sym (front-row live runs undo room c (m .gone) u x ws (sent ++ m .more) r₀ w) ∙ z)
 
 -- the two parts of settling
-pub settled-both : (live runs undo room runs₁ undo₁ room₁ runs₂ room₂ : List ℕ) (c c₁ c₂ : Counts) → Singles live runs undo room c runs₁ undo₁ room₁ c₁ → Fronted live runs₁ room₁ c₁ runs₂ room₂ c₂ → Settled live runs undo room c runs₂ undo₁ room₂ c₂
+pub settled-both : (live runs undo room runs₁ undo₁ room₁ runs₂ room₂ : List ℕ) (c c₁ c₂ : Course) → Singles live runs undo room c runs₁ undo₁ room₁ c₁ → Fronted live runs₁ room₁ c₁ runs₂ room₂ c₂ → Settled live runs undo room c runs₂ undo₁ room₂ c₂
 settled-both live runs undo room runs₁ undo₁ room₁ runs₂ room₂ c c₁ c₂ one two gone us ws sent room₀ w k =
     let s = one gone us ws sent room₀ w k in
     let m = s .0 in (
@@ -291,12 +291,12 @@ settled-both live runs undo room runs₁ undo₁ room₁ runs₂ room₂ c c₁ 
     )
 
 -- the new front, or none
-pub fronted-none : (live runs room : List ℕ) (c : Counts) → c .uncommitted ≡ 0 → Fronted live runs room c runs room c
+pub fronted-none : (live runs room : List ℕ) (c : Course) → c .counts .uncommitted ≡ 0 → Fronted live runs room c runs room c
 unfolding settled
 fronted-none live runs room c z undo gone [] ws sent room₀ w k h = subst (λ (x : List Answer). Work live runs undo room c gone [] ws x room₀) (sym (append-nil sent)) w
 fronted-none live runs room c z undo gone (u ∷ us) ws sent room₀ w k h = absurd (omega (arith, w .uncommitted, z))
 
-pub fronted-some : (live runs room runs′ room′ : List ℕ) (c c′ : Counts) (number a : ℕ) → Fair c → 0 < c .uncommitted → number ≡ getD live (liveWidth * c .first) 0 → a ≡ pick (holdsRow runs 0) (c .answers + 1) (c .answers)
+pub fronted-some : (live runs room runs′ room′ : List ℕ) (c c′ : Course) (number a : ℕ) → Fair c → 0 < c .counts .uncommitted → number ≡ getD live (liveWidth * c .first) 0 → a ≡ pick (holdsRow runs 0) (c .answers + 1) (c .answers)
     → room′ ≡ pick (holdsRow runs 0) (sets room (answerWords * c .answers) (heldRow runs 0 number 0)) room → runs′ ≡ sets runs 0 (sentRow runs 0) → c′ ≡ withAnswers a c → Fronted live runs room c runs′ room′ c′
 fronted-some live runs room runs′ room′ c c′ number a fair some en ea er eu ec undo gone [] ws sent room₀ w k h = absurd (omega (arith, w .uncommitted))
 fronted-some live runs room runs′ room′ c c′ number a fair some en ea er eu ec undo gone (u ∷ us) ws sent room₀ w k h =

@@ -16,11 +16,11 @@ use Rattle.engine.proofs.start.Kinds as start-kinds
 use Rattle.engine.proofs.start.Reads as start
 
 -- what `call_lent` returns and the lent rows are together one record's parts
-parts : (n : ℕ) (all : Called) (d d′ : LentCall) (live live′ runs runs′ undo undo′ : List ℕ) → lentCall n d live runs undo ≡ all → lentCall n d′ live′ runs′ undo′ ≡ all
+parts : (all : Called) (d d′ : LentCall) (live live′ runs runs′ undo undo′ : List ℕ) → lentCall d live runs undo ≡ all → lentCall d′ live′ runs′ undo′ ≡ all
     → (d ≡ d′) × (live ≡ live′) × (runs ≡ runs′) × (undo ≡ undo′)
-parts n all d d′ live live′ runs runs′ undo undo′ p q =
+parts all d d′ live live′ runs runs′ undo undo′ p q =
     let s = p ∙ sym q in (
-      (λ i. record { number = s i .number; answers = s i .answers; largest = s i .next .largest; uncommitted = s i .next .uncommitted; waiting = s i .next .waiting }),
+      (λ i. record { number = s i .number; answers = s i .answers; counts = s i .next .counts }),
       (λ i. s i .next .live),
       (λ i. s i .next .runs),
       (λ i. s i .next .undo),
@@ -28,12 +28,12 @@ parts n all d d′ live live′ runs runs′ undo undo′ p q =
 
 pub call-lent-unique : Unique call-lent-kinds.ps call-lent-kinds.r call-lent.Learnt
 call-lent-unique κs a z z′ ws ws′ p q =
-    let v = ws .1 .1 .1 .1 .1 in
-    let v′ = ws′ .1 .1 .1 .1 .1 in
-    let x = parts (a .1 .0) _ z z′ (v .0) (v′ .0) (v .1 .0) (v′ .1 .0) (v .1 .1 .0) (v′ .1 .1 .0) (p .0) (q .0) in
+    let v = ws .1 .1 in
+    let v′ = ws′ .1 .1 in
+    let x = parts _ z z′ (v .0) (v′ .0) (v .1 .0) (v′ .1 .0) (v .1 .1 .0) (v′ .1 .1 .0) (p .0) (q .0) in
     let cells : v .1 .1 .1 .0 ≡ v′ .1 .1 .1 .0 = cc in
     let room : v .1 .1 .1 .1 .1 .0 ≡ v′ .1 .1 .1 .1 .1 .0 = cc in
-    (x .0, λ j. (ws .0, (ws .1 .0, (ws .1 .1 .0, (ws .1 .1 .1 .0, (ws .1 .1 .1 .1 .0, (x .1 j, (x .2 j, (x .3 j, (cells j, (v .1 .1 .1 .1 .0, (room j, v .1 .1 .1 .1 .1 .1))))))))))))
+    (x .0, λ j. (ws .0, (ws .1 .0, (x .1 j, (x .2 j, (x .3 j, (cells j, (v .1 .1 .1 .1 .0, (room j, v .1 .1 .1 .1 .1 .1)))))))))
 
 pub call-by-unique : Unique call-by-kinds.ps call-by-kinds.r call-by.Learnt
 call-by-unique κs a z z′ ws ws′ p q =

@@ -8,6 +8,7 @@ use Rattle.model.specs.Refusals as Refusals
 use Rattle.model.specs.declared.Event.{Event}
 use Rattle.model.specs.declared.Scheme.{Scheme}
 use Rattle.refusals.specs.Rest.{callOf}
+use Rattle.record.specs.declared.Counts.{Counts}
 use Rattle.record.specs.declared.Record.{Record}
 use Rattle.record.specs.Words.{pack}
 use Rattle.record.specs.View.{view}
@@ -36,12 +37,11 @@ abbrev pub roomAfter : Scheme → Record → Event → Cells → List ℕ → Li
 roomAfter σ r v cells room = stepped σ r v cells room .room
 
 -- a record from its counts and its rows, and what a call on lent rows leaves, as one record
-abbrev pub recordBy : ℕ → ℕ → ℕ → ℕ → List ℕ → List ℕ → List ℕ → Record
-recordBy count largest uncommitted waiting live runs undo =
-    record { count = count; largest = largest; uncommitted = uncommitted; waiting = waiting; live = live; runs = runs; undo = undo }
+abbrev pub recordBy : Counts → List ℕ → List ℕ → List ℕ → Record
+recordBy c live runs undo = record { counts = c; live = live; runs = runs; undo = undo }
 
-abbrev pub lentCall : ℕ → LentCall → List ℕ → List ℕ → List ℕ → Called
-lentCall count d live runs undo = record { number = d .number; answers = d .answers; next = recordBy count (d .largest) (d .uncommitted) (d .waiting) live runs undo }
+abbrev pub lentCall : LentCall → List ℕ → List ℕ → List ℕ → Called
+lentCall d live runs undo = record { number = d .number; answers = d .answers; next = recordBy (d .counts) live runs undo }
 
 -- starting
 unfoldable pub freshOf : ℕ → Fresh

@@ -5,8 +5,7 @@ use mathlib.Core.Bool.{Bool, true, false, not, _&&_, _||_}
 use mathlib.Core.List.{List, [], _∷_, _++_, map}
 use lib.Dec.{ltb, leb, eqb}
 use lib.ListN.{length, getD, replicate}
-use lib.Seq.{sets}
-use Rattle.model.specs.Limits.{leastRoom, answerWords}
+use Rattle.model.specs.Limits.{leastRoom}
 use Rattle.model.specs.Operations.{Cells, Outcome, multi, pick}
 use Rattle.record.specs.View.{numbersFrom}
 use Rattle.model.specs.Transactions.{Uncommitted, Waiting, Answer, answer, undoList, filled, front}
@@ -16,70 +15,70 @@ use Rattle.model.specs.declared.Scheme.{Scheme}
 use Rattle.model.specs.declared.Scheme.the-variants.{Speculation, Blocking}
 use Rattle.operations.specs.Laid.{padded, flat}
 use Rattle.operations.specs.declared.Ran.{Ran}
-use Rattle.record.specs.Words.{allRows, allRuns, liveRows}
+use Rattle.record.specs.Words.{allRows, allRuns, rowOf, liveRows}
 use Rattle.record.specs.View.{fragmentAt}
-use Rattle.engine.specs.declared.counts.Counts.{Counts}
+use Rattle.record.specs.Ends.{endsAt}
+use Rattle.engine.specs.declared.course.Course.{Course}
 use Rattle.record.specs.Fitting.{Eight, Known}
 use Rattle.model.specs.Parts.{All, Sound}
 use Rattle.record.specs.Widths.{liveWidth, runWidth, liveLength, runsLength, undoLength}
-use Rattle.rows.specs.Rows.{answerRow}
 
 -- counts that fit: what keeps the arithmetic of a call in bounds
-pub record Small (c : Counts) : Type 0 where
-  pub live : c .first + c .uncommitted + c .waiting ≤ 64
-  pub answers : c .answers + c .waiting ≤ 64
-  pub depth : c .uncommitted ≤ 16
-  pub entries : c .entries + 8 * (16 - c .uncommitted) ≤ 184
+pub record Small (c : Course) : Type 0 where
+  pub live : c .first + c .counts .uncommitted + c .counts .waiting ≤ 64
+  pub answers : c .answers + c .counts .waiting ≤ 64
+  pub depth : c .counts .uncommitted ≤ 16
+  pub entries : c .entries + 8 * (16 - c .counts .uncommitted) ≤ 184
 
 -- the rows hold the transactions that are gone in this call, the uncommitted ones and the waiting ones; the room the answers so far
-pub record Work (live runs undo room : List ℕ) (c : Counts) (gone : List Waiting) (us : List Uncommitted) (ws : List Waiting) (sent : List Answer) (room₀ : List ℕ) : Type 0 where
+pub record Work (live runs undo room : List ℕ) (c : Course) (gone : List Waiting) (us : List Uncommitted) (ws : List Waiting) (sent : List Answer) (room₀ : List ℕ) : Type 0 where
   pub at-live : live ≡ padded liveLength (allRows (gone ++ liveRows us ws))
   pub at-runs : runs ≡ padded runsLength (allRuns us)
   pub at-undo : undo ≡ padded undoLength (flat (undoList us))
   pub at-room : room ≡ filled sent room₀
   pub first : length gone ≡ c .first
-  pub uncommitted : length us ≡ c .uncommitted
-  pub waiting : length ws ≡ c .waiting
+  pub uncommitted : length us ≡ c .counts .uncommitted
+  pub waiting : length ws ≡ c .counts .waiting
   pub entries : length (undoList us) ≡ c .entries
   pub answers : length sent ≡ c .answers
   pub eights : All Eight (gone ++ liveRows us ws)
   pub enough : leastRoom ≤ length room₀
 
--- one answer more in the room
-abbrev pub withAnswer : ℕ → ℕ → ℕ → Ran → List ℕ → List ℕ
-withAnswer a n d r room = sets room (answerWords * a) (answerRow n d (r .place) (r .count) (r .numbers))
+-- How far a call has come, after each move: one that ran has joined with its own entries, and one that settled at once joined with none and left;
+-- one more has come; the first of the queue has left with its own entries; all uncommitted ones are back in the waiting queue; answers are sent.
+abbrev pub joinedWith : Course → ℕ → Course
+joinedWith c own = record { counts = endsAt (c .counts) (c .counts .uncommitted + 1) (c .counts .waiting - 1); first = c .first; entries = c .entries + own; answers = c .answers }
 
--- the counts after one that ran has joined, and after one that settled at once
-abbrev pub joinedWith : Counts → ℕ → Counts
-joinedWith c own = record { first = c .first; uncommitted = c .uncommitted + 1; waiting = c .waiting - 1; entries = c .entries + own; answers = c .answers }
+abbrev pub joinedBy : Course → Ran → Course
+joinedBy c r = joinedWith c (r .entries)
 
-abbrev pub joinedCounts : Counts → Ran → Counts
-joinedCounts c r = joinedWith c (r .entries)
+abbrev pub leftBy : Course → ℕ → Course
+leftBy c own = record { counts = endsAt (c .counts) (c .counts .uncommitted - 1) (c .counts .waiting); first = c .first + 1; entries = c .entries - own; answers = c .answers }
 
-abbrev pub settledCounts : Counts → Counts
-settledCounts c = record { first = c .first + 1; uncommitted = c .uncommitted; waiting = c .waiting - 1; entries = c .entries; answers = c .answers }
+abbrev pub settledAtOnce : Course → Course
+settledAtOnce c = leftBy (joinedWith c 0) 0
 
--- after one more has come, after the front has left, and after all but the front return to the waiting queue
-abbrev pub waitingMore : Counts → Counts
-waitingMore c = record { first = c .first; uncommitted = c .uncommitted; waiting = c .waiting + 1; entries = c .entries; answers = c .answers }
+abbrev pub waitingMore : Course → Course
+waitingMore c = record { counts = endsAt (c .counts) (c .counts .uncommitted) (c .counts .waiting + 1); first = c .first; entries = c .entries; answers = c .answers }
 
-abbrev pub leftBy : Counts → ℕ → Counts
-leftBy c own = record { first = c .first + 1; uncommitted = c .uncommitted - 1; waiting = c .waiting; entries = c .entries - own; answers = c .answers }
+abbrev pub requeuedAll : Course → Course
+requeuedAll c = record { counts = endsAt (c .counts) 0 (c .counts .uncommitted + c .counts .waiting); first = c .first; entries = 0; answers = c .answers }
 
-abbrev pub requeuedCounts : Counts → Counts
-requeuedCounts c = record { first = c .first + 1; uncommitted = 0; waiting = c .uncommitted - 1 + c .waiting; entries = 0; answers = c .answers }
+abbrev pub withAnswers : ℕ → Course → Course
+withAnswers a c = record { counts = c .counts; first = c .first; entries = c .entries; answers = a }
 
-abbrev pub withAnswers : ℕ → Counts → Counts
-withAnswers a c = record { first = c .first; uncommitted = c .uncommitted; waiting = c .waiting; entries = c .entries; answers = a }
+-- "cell count, largest number accepted": no step moves these
+abbrev pub Kept : Course → Course → Type 0
+Kept c d = (d .counts .cells ≡ c .counts .cells) × (d .counts .largest ≡ c .counts .largest)
 
 -- the rows after a step hold what q has, with its answers behind those sent before
-pub record Left (live runs undo room : List ℕ) (c : Counts) (cells : Cells) (sent : List Answer) (room₀ : List ℕ) (q : Queues) : Type 0 where
+pub record Left (live runs undo room : List ℕ) (c : Course) (cells : Cells) (sent : List Answer) (room₀ : List ℕ) (q : Queues) : Type 0 where
   pub gone : List Waiting
   pub work : Work live runs undo room c gone (q .uncommitted) (q .waiting) (sent ++ q .answers) room₀
   pub stands : cells ≡ q .cells
 
 -- the drain took the first waiting one, whatever lists the rows hold
-abbrev pub Took : List ℕ → List ℕ → List ℕ → List ℕ → Cells → Counts → List ℕ → List ℕ → List ℕ → Cells → Counts → Type 0
+abbrev pub Took : List ℕ → List ℕ → List ℕ → List ℕ → Cells → Course → List ℕ → List ℕ → List ℕ → Cells → Course → Type 0
 Took live runs undo room cells c runs′ undo′ room′ cells′ c′ =
     (gone : List Waiting) (us : List Uncommitted) (w : Waiting) (ws : List Waiting) (sent : List Answer) (room₀ : List ℕ) → Work live runs undo room c gone us (w ∷ ws) sent room₀
     → (ct top : ℕ) → Sound ct top us (w ∷ ws) → (σ : Scheme) → mayTake σ us ≡ true
@@ -87,32 +86,32 @@ Took live runs undo room cells c runs′ undo′ room′ cells′ c′ =
     (record { cells = run (w .fragment) cells [] .cells; uncommitted = placed us w (run (w .fragment) cells []) .uncommitted; waiting = ws; answers = placed us w (run (w .fragment) cells []) .answers; settles = placed us w (run (w .fragment) cells []) .settles })
 
 -- a whole drain
-abbrev pub Drained : Scheme → List ℕ → List ℕ → List ℕ → List ℕ → Cells → Counts → List ℕ → List ℕ → List ℕ → Cells → Counts → Type 0
+abbrev pub Drained : Scheme → List ℕ → List ℕ → List ℕ → List ℕ → Cells → Course → List ℕ → List ℕ → List ℕ → Cells → Course → Type 0
 Drained σ live runs undo room cells c runs′ undo′ room′ cells′ c′ =
     (gone : List Waiting) (us : List Uncommitted) (ws : List Waiting) (sent : List Answer) (room₀ : List ℕ) → Work live runs undo room c gone us ws sent room₀
     → (ct top : ℕ) → Sound ct top us ws → Left live runs′ undo′ room′ c′ cells′ sent room₀ (drain σ cells us ws)
 
 -- counts before anything has settled: room for an answer of each live one
-pub record Fair (c : Counts) : Type 0 where
-  pub live : c .first + c .uncommitted + c .waiting ≤ 64
-  pub answers : c .answers + c .uncommitted + c .waiting ≤ 64
-  pub depth : c .uncommitted ≤ 16
+pub record Fair (c : Course) : Type 0 where
+  pub live : c .first + c .counts .uncommitted + c .counts .waiting ≤ 64
+  pub answers : c .answers + c .counts .uncommitted + c .counts .waiting ≤ 64
+  pub depth : c .counts .uncommitted ≤ 16
   pub entries : c .entries ≤ 184
 
 -- the first of the queue leaves it, whatever lists the rows hold
-abbrev pub Dropped : List ℕ → List ℕ → Counts → List ℕ → List ℕ → Counts → Type 0
+abbrev pub Dropped : List ℕ → List ℕ → Course → List ℕ → List ℕ → Course → Type 0
 Dropped runs undo c runs′ undo′ c′ =
     (live room : List ℕ) (gone : List Waiting) (u : Uncommitted) (us : List Uncommitted) (ws : List Waiting) (sent : List Answer) (room₀ : List ℕ) → Work live runs undo room c gone (u ∷ us) ws sent room₀
-    → All Known (u ∷ us) → Work live runs′ undo′ room c′ (gone ++ (requeued u ∷ [])) us ws sent room₀
+    → All Known (u ∷ us) → Work live runs′ undo′ room c′ (gone ++ (rowOf u ∷ [])) us ws sent room₀
 
 -- the same, with the answer that it held sent
-abbrev pub SettledOne : List ℕ → List ℕ → List ℕ → List ℕ → Counts → List ℕ → List ℕ → List ℕ → Counts → Type 0
+abbrev pub SettledOne : List ℕ → List ℕ → List ℕ → List ℕ → Course → List ℕ → List ℕ → List ℕ → Course → Type 0
 SettledOne live runs undo room c runs′ undo′ room′ c′ =
     (gone : List Waiting) (u : Uncommitted) (us : List Uncommitted) (ws : List Waiting) (sent : List Answer) (room₀ : List ℕ) → Work live runs undo room c gone (u ∷ us) ws sent room₀
-    → All Known (u ∷ us) → Work live runs′ undo′ room′ c′ (gone ++ (requeued u ∷ [])) us ws (sent ++ heldBy u) room₀
+    → All Known (u ∷ us) → Work live runs′ undo′ room′ c′ (gone ++ (rowOf u ∷ [])) us ws (sent ++ heldBy u) room₀
 
 -- some singles at the front have settled, and us′ with no single first is left
-pub record SettledTo (live runs undo room : List ℕ) (c : Counts) (us : List Uncommitted) (ws : List Waiting) (sent : List Answer) (room₀ : List ℕ) : Type 0 where
+pub record SettledTo (live runs undo room : List ℕ) (c : Course) (us : List Uncommitted) (ws : List Waiting) (sent : List Answer) (room₀ : List ℕ) : Type 0 where
   pub gone : List Waiting
   pub left : List Uncommitted
   pub more : List Answer
@@ -121,36 +120,36 @@ pub record SettledTo (live runs undo room : List ℕ) (c : Counts) (us : List Un
   pub known : All Known left
   pub rest : settled us ≡ record { uncommitted = settled left .uncommitted; answers = more ++ settled left .answers; settles = names ++ settled left .settles }
 
-abbrev pub Singles : List ℕ → List ℕ → List ℕ → List ℕ → Counts → List ℕ → List ℕ → List ℕ → Counts → Type 0
+abbrev pub Singles : List ℕ → List ℕ → List ℕ → List ℕ → Course → List ℕ → List ℕ → List ℕ → Course → Type 0
 Singles live runs undo room c runs′ undo′ room′ c′ =
     (gone : List Waiting) (us : List Uncommitted) (ws : List Waiting) (sent : List Answer) (room₀ : List ℕ) → Work live runs undo room c gone us ws sent room₀ → All Known us
     → (s : SettledTo live runs′ undo′ room′ c′ us ws sent room₀) × (front (λ (u : Uncommitted). not (multi (u .first))) (s .left) ≡ false)
 
-abbrev pub Fronted : List ℕ → List ℕ → List ℕ → Counts → List ℕ → List ℕ → Counts → Type 0
+abbrev pub Fronted : List ℕ → List ℕ → List ℕ → Course → List ℕ → List ℕ → Course → Type 0
 Fronted live runs room c runs′ room′ c′ =
     (undo : List ℕ) (gone : List Waiting) (us : List Uncommitted) (ws : List Waiting) (sent : List Answer) (room₀ : List ℕ) → Work live runs undo room c gone us ws sent room₀ → All Known us
     → front (λ (u : Uncommitted). not (multi (u .first))) us ≡ false → Work live runs′ undo room′ c′ gone (settled us .uncommitted) ws (sent ++ settled us .answers) room₀
 
 -- the singles at the front have settled, the new front's held answer is sent
-abbrev pub Settled : List ℕ → List ℕ → List ℕ → List ℕ → Counts → List ℕ → List ℕ → List ℕ → Counts → Type 0
+abbrev pub Settled : List ℕ → List ℕ → List ℕ → List ℕ → Course → List ℕ → List ℕ → List ℕ → Course → Type 0
 Settled live runs undo room c runs′ undo′ room′ c′ =
     (gone : List Waiting) (us : List Uncommitted) (ws : List Waiting) (sent : List Answer) (room₀ : List ℕ) → Work live runs undo room c gone us ws sent room₀ → All Known us
     → (gone′ : List Waiting) × Work live runs′ undo′ room′ c′ gone′ (settled us .uncommitted) ws (sent ++ settled us .answers) room₀
 
 -- the front has settled, and the singles behind it
-abbrev pub Committed : List ℕ → List ℕ → List ℕ → List ℕ → Counts → List ℕ → List ℕ → List ℕ → Counts → Type 0
+abbrev pub Committed : List ℕ → List ℕ → List ℕ → List ℕ → Course → List ℕ → List ℕ → List ℕ → Course → Type 0
 Committed live runs undo room c runs′ undo′ room′ c′ =
     (gone : List Waiting) (u : Uncommitted) (us : List Uncommitted) (ws : List Waiting) (sent : List Answer) (room₀ : List ℕ) → Work live runs undo room c gone (u ∷ us) ws sent room₀ → All Known (u ∷ us)
     → (gone′ : List Waiting) × Work live runs′ undo′ room′ c′ gone′ (settled us .uncommitted) ws (sent ++ settled us .answers) room₀
 
 -- everything uncommitted is undone, and all but the front waits again
-abbrev pub Aborted : List ℕ → List ℕ → Cells → Counts → List ℕ → List ℕ → Cells → Counts → Type 0
+abbrev pub Aborted : List ℕ → List ℕ → Cells → Course → List ℕ → List ℕ → Cells → Course → Type 0
 Aborted runs undo cells c runs′ undo′ cells′ c′ =
     (live room : List ℕ) (gone : List Waiting) (u : Uncommitted) (us : List Uncommitted) (ws : List Waiting) (sent : List Answer) (room₀ : List ℕ) → Work live runs undo room c gone (u ∷ us) ws sent room₀ → All Known (u ∷ us)
-    → Work live runs′ undo′ room c′ (gone ++ (requeued u ∷ [])) [] (map requeued us ++ ws) sent room₀ × (cells′ ≡ undone (undoList (u ∷ us)) cells)
+    → Work live runs′ undo′ room c′ (gone ++ (rowOf u ∷ [])) [] (map requeued us ++ ws) sent room₀ × (cells′ ≡ undone (undoList (u ∷ us)) cells)
 
 -- the front, alone, has run one more fragment
-abbrev pub Continued : List ℕ → List ℕ → List ℕ → List ℕ → Cells → Counts → Fragment → List ℕ → List ℕ → List ℕ → Cells → Counts → Type 0
+abbrev pub Continued : List ℕ → List ℕ → List ℕ → List ℕ → Cells → Course → Fragment → List ℕ → List ℕ → List ℕ → Cells → Course → Type 0
 Continued live runs undo room cells c f runs′ undo′ room′ cells′ c′ =
     (gone : List Waiting) (u : Uncommitted) (ws : List Waiting) (sent : List Answer) (room₀ : List ℕ) → Work live runs undo room c gone (u ∷ []) ws sent room₀ → Known u → u .ran < 8
     → length (f .row) ≡ 8 → length (u .undo) ≤ 8 * u .ran

@@ -1,7 +1,7 @@
 // An answer behind those that were sent before it in the call.
 ghost use mathlib.Core.Path.{_≡_};
 ghost use Prim.Native.Nat.{min, _≤_};
-ghost use Rattle.engine.specs.Work.{withAnswer};
+ghost use Rattle.rows.specs.Rows.{withAnswer};
 use operations::Ran;
 
 // Puts an answer behind `answers` others.

@@ -1,47 +1,18 @@
 // "Drain": take the first waiting one while the scheme may, run it, and place it.
-ghost use Rattle.record.specs.Widths.{runWidth, liveLength};
+ghost use Rattle.record.specs.Widths.{runWidth};
 ghost use mathlib.Core.Path.{_≡_};
 ghost use Prim.Native.Nat.{_+_, _*_, _≤_, _<_};
 ghost use lib.Seq.{sets};
-ghost use Rattle.engine.specs.Work.{Small, withAnswer, joinedCounts, settledCounts, Took, Drained};
-ghost use Rattle.rows.specs.Rows.{begunRow, oneRows, nearRows};
+ghost use Rattle.engine.specs.Work.{Kept, Small, joinedBy, settledAtOnce, Took, Drained};
+ghost use Rattle.rows.specs.Rows.{begunRow, withAnswer};
 ghost use Rattle.record.specs.View.{numbersFrom};
 ghost use Rattle.model.specs.Operations.{pick};
 use crate::answers::put_answer;
-use crate::counts::Counts;
+use crate::course::Course;
 use model::Scheme;
 use operations::Ran;
 
-// "all uncommitted multis .. have one coordinator (singles do not count)": k, over n rows of the live row from place b on.
-pub(crate) fn one_coordinator(live: &[u32], b: u32, n: u32, k: u32) -> bool
-    requires { ⌜ (b ≤ liveLength) × (n ≤ 64) ⌝ }
-    ensures { λ r. ⌜ r ≡ oneRows (now (live .entry)) b n k ⌝ }
-{
-    let mut i: u32 = 0;
-    while i < n {
-        if !rows::same_coordinator(live, b + record::LIVE_WIDTH * i, k) {
-            return false;
-        }
-        i = i + 1;
-    }
-    true
-}
-
-// "the nearest multi ahead of it": the last multi's number of n rows, 0 where there is none.
-pub(crate) fn nearest_multi(live: &[u32], b: u32, n: u32) -> u32
-    requires { ⌜ (b ≤ liveLength) × (n ≤ 64) ⌝ }
-    ensures { λ r. ⌜ r ≡ nearRows 0 (now (live .entry)) b n ⌝ }
-{
-    let mut d: u32 = 0;
-    let mut i: u32 = 0;
-    while i < n {
-        d = rows::nearer(live, b + record::LIVE_WIDTH * i, d);
-        i = i + 1;
-    }
-    d
-}
-
-// The same if it is to be sent now; how many answers there are then.
+// Puts an answer behind the others if it is to be sent now; how many answers there are then.
 pub(crate) fn answer_if(
     now_sent: bool,
     room: &mut [u32],
@@ -66,21 +37,21 @@ pub(crate) fn answer_if(
 pub(crate) fn join(
     runs: &mut [u32],
     undo: &mut [u32],
-    c: Counts,
+    c: Course,
     held: bool,
     last: bool,
     r: Ran,
-) -> Counts
-    requires { ⌜ (c .first ≤ 64) × (c .entries ≤ 184) × (0 < c .waiting) × (c .uncommitted < 16) × (r .entries ≤ 8) ⌝ }
-    ensures { λ d. ⌜ d ≡ joinedCounts c r ⌝ }
-    ensures { λ d. ⌜ now (runs .exit) ≡ sets (now (runs .entry)) (runWidth * c .uncommitted) (begunRow held last r) ⌝ }
+) -> Course
+    requires { ⌜ (c .first ≤ 64) × (c .entries ≤ 184) × (0 < c .counts .waiting) × (c .counts .uncommitted < 16) × (r .entries ≤ 8) ⌝ }
+    ensures { λ d. ⌜ d ≡ joinedBy c r ⌝ }
+    ensures { λ d. ⌜ now (runs .exit) ≡ sets (now (runs .entry)) (runWidth * c .counts .uncommitted) (begunRow held last r) ⌝ }
     ensures { λ d. ⌜ now (undo .exit) ≡ sets (now (undo .entry)) (2 * c .entries) (numbersFrom (r .undo) 0 (2 * r .entries)) ⌝ }
 {
     let w = rows::begun_row(held, last, r);
     let own = r.undo;
     record::lay(
         runs,
-        record::RUN_WIDTH * c.uncommitted,
+        record::RUN_WIDTH * c.counts.uncommitted,
         &w,
         record::RUN_WIDTH,
     );
@@ -98,20 +69,23 @@ pub(crate) fn join_if(
     joins: bool,
     runs: &mut [u32],
     undo: &mut [u32],
-    c: Counts,
+    c: Course,
     held: bool,
     last: bool,
     r: Ran,
-) -> Counts
-    requires { ⌜ (c .first ≤ 64) × (c .entries ≤ 184) × (0 < c .waiting) × (c .uncommitted < 16) × (r .entries ≤ 8) ⌝ }
-    ensures { λ d. ⌜ d ≡ pick joins (joinedCounts c r) (settledCounts c) ⌝ }
-    ensures { λ d. ⌜ now (runs .exit) ≡ pick joins (sets (now (runs .entry)) (runWidth * c .uncommitted) (begunRow held last r)) (now (runs .entry)) ⌝ }
-    ensures { λ d. ⌜ now (undo .exit) ≡ pick joins (sets (now (undo .entry)) (2 * c .entries) (numbersFrom (r .undo) 0 (2 * r .entries))) (now (undo .entry)) ⌝ }
+) -> Course
+    requires { ⌜ (c .first ≤ 64) × (c .entries ≤ 184) × (0 < c .counts .waiting) × (c .counts .uncommitted < 16) × (r .entries ≤ 8) ⌝ }
+    ensures { λ d. ⌜ d ≡ pick joins (joinedBy c r) (settledAtOnce c) ⌝ }
+    ensures { λ d. ⌜ now (runs .exit) ≡ pick joins
+        (sets (now (runs .entry)) (runWidth * c .counts .uncommitted) (begunRow held last r)) (now (runs .entry)) ⌝ }
+    ensures { λ d. ⌜ now (undo .exit) ≡ pick joins
+        (sets (now (undo .entry)) (2 * c .entries) (numbersFrom (r .undo) 0 (2 * r .entries))) (now (undo .entry)) ⌝ }
 {
     if joins {
         join(runs, undo, c, held, last, r)
     } else {
-        c.settles()
+        // as one that joins with nothing and leaves
+        c.joins(0).leaves(0)
     }
 }
 
@@ -122,34 +96,29 @@ pub(crate) fn take_first(
     undo: &mut [u32],
     cells: &mut [u32],
     room: &mut [u32],
-    c: Counts,
-) -> Counts
+    c: Course,
+) -> Course
     requires { ⌜ Small c ⌝ }
-    requires { ⌜ (0 < c .waiting) × (c .uncommitted < 16) ⌝ }
+    requires { ⌜ (0 < c .counts .waiting) × (c .counts .uncommitted < 16) ⌝ }
     ensures { λ d. ⌜ Small d ⌝ }
-    ensures { λ d. ⌜ d .waiting + 1 ≡ c .waiting ⌝ }
-    ensures { λ d. ⌜ Took (now (live .entry)) (now (runs .entry)) (now (undo .entry)) (now (room .entry)) (now (cells .entry)) c (now (runs .exit)) (now (undo .exit)) (now (room .exit)) (now (cells .exit)) d ⌝ }
+    ensures { λ d. ⌜ d .counts .waiting + 1 ≡ c .counts .waiting ⌝ }
+    ensures { λ d. ⌜ Took (now (live .entry)) (now (runs .entry)) (now (undo .entry)) (now (room .entry)) (now (cells .entry)) c
+        (now (runs .exit)) (now (undo .exit)) (now (room .exit)) (now (cells .exit)) d ⌝ }
+    ensures { λ d. ⌜ Kept c d ⌝ }
 {
-    let at = record::LIVE_WIDTH * (c.first + c.uncommitted);
+    let at = record::LIVE_WIDTH * (c.first + c.counts.uncommitted);
     let from = record::LIVE_WIDTH * c.first;
     let number = operations::number_at(live, at as usize);
     let f = record::fragment_at(live, at);
     let r = operations::run_fragment(cells, f);
     let multi = operations::is_multi(f);
     let last = operations::is_last(f);
-    let one = one_coordinator(live, from, c.uncommitted, f.coordinator);
-    let near = nearest_multi(live, from, c.uncommitted);
-    let sent = rows::is_answered(c.uncommitted, multi, one);
-    let joins = rows::is_joining(c.uncommitted, multi);
+    let one = rows::one_coordinator(live, from, c.counts.uncommitted, f.coordinator);
+    let near = rows::nearest_multi(live, from, c.counts.uncommitted);
+    let sent = rows::is_answered(c.counts.uncommitted, multi, one);
+    let joins = rows::is_joining(c.counts.uncommitted, multi);
     let answers = answer_if(sent, room, c.answers, number, near, r);
-    let d = Counts {
-        first: c.first,
-        uncommitted: c.uncommitted,
-        waiting: c.waiting,
-        entries: c.entries,
-        answers: answers,
-    };
-    join_if(joins, runs, undo, d, !sent, last, r)
+    join_if(joins, runs, undo, c.sends(answers), !sent, last, r)
 }
 
 // "Drain: while something waits, and" the scheme may take the first of them.
@@ -160,15 +129,17 @@ pub(crate) fn drain(
     undo: &mut [u32],
     cells: &mut [u32],
     room: &mut [u32],
-    from: Counts,
-) -> Counts
+    from: Course,
+) -> Course
     requires { ⌜ Small from ⌝ }
     ensures { λ d. ⌜ Small d ⌝ }
-    ensures { λ d. ⌜ Drained scheme (now (live .entry)) (now (runs .entry)) (now (undo .entry)) (now (room .entry)) (now (cells .entry)) from (now (runs .exit)) (now (undo .exit)) (now (room .exit)) (now (cells .exit)) d ⌝ }
+    ensures { λ d. ⌜ Drained scheme (now (live .entry)) (now (runs .entry)) (now (undo .entry)) (now (room .entry)) (now (cells .entry)) from
+        (now (runs .exit)) (now (undo .exit)) (now (room .exit)) (now (cells .exit)) d ⌝ }
+    ensures { λ d. ⌜ Kept from d ⌝ }
 {
     let mut c = from;
-    while 0 < c.waiting {
-        if !rows::may_take(scheme, runs, c.uncommitted) {
+    while 0 < c.counts.waiting {
+        if !rows::may_take(scheme, runs, c.counts.uncommitted) {
             return c;
         }
         c = take_first(live, runs, undo, cells, room, c);

@@ -3,11 +3,11 @@ ghost use mathlib.Core.Path.{_≡_};
 ghost use Prim.Native.Nat.{_+_, _*_, _≤_, _<_};
 ghost use lib.Dec.{eqb};
 ghost use lib.Seq.{sets};
-ghost use Rattle.engine.specs.Work.{Fair, Continued};
+ghost use Rattle.engine.specs.Work.{Kept, Fair, Continued};
 ghost use Rattle.record.specs.View.{numbersFrom};
 ghost use Rattle.model.specs.Operations.{pick};
 use crate::answers::put_answer;
-use crate::counts::Counts;
+use crate::course::Course;
 use model::Fragment;
 use operations::Ran;
 
@@ -15,7 +15,9 @@ use operations::Ran;
 pub(crate) fn note_entries(undo: &mut [u32], entries: u32, r: Ran) -> u32
     requires { ⌜ (entries ≤ 184) × (r .entries ≤ 8) ⌝ }
     ensures { λ n. ⌜ n ≡ pick (eqb (r .place) 0) (entries + r .entries) 0 ⌝ }
-    ensures { λ n. ⌜ now (undo .exit) ≡ pick (eqb (r .place) 0) (sets (now (undo .entry)) (2 * entries) (numbersFrom (r .undo) 0 (2 * r .entries))) (sets (now (undo .entry)) 0 (numbersFrom (now (undo .entry)) (2 * entries) (2 * entries))) ⌝ }
+    ensures { λ n. ⌜ now (undo .exit) ≡ pick (eqb (r .place) 0)
+        (sets (now (undo .entry)) (2 * entries) (numbersFrom (r .undo) 0 (2 * r .entries)))
+        (sets (now (undo .entry)) 0 (numbersFrom (now (undo .entry)) (2 * entries) (2 * entries))) ⌝ }
 {
     if r.place == 0 {
         let own = r.undo;
@@ -43,13 +45,15 @@ pub(crate) fn continue_front(
     undo: &mut [u32],
     cells: &mut [u32],
     room: &mut [u32],
-    c: Counts,
+    c: Course,
     f: Fragment,
-) -> Counts
+) -> Course
     requires { ⌜ Fair c ⌝ }
-    requires { ⌜ 0 < c .uncommitted ⌝ }
-    ensures { λ d. ⌜ d .first + d .uncommitted + d .waiting ≤ 64 ⌝ }
-    ensures { λ d. ⌜ Continued (now (live .entry)) (now (runs .entry)) (now (undo .entry)) (now (room .entry)) (now (cells .entry)) c f (now (runs .exit)) (now (undo .exit)) (now (room .exit)) (now (cells .exit)) d ⌝ }
+    requires { ⌜ 0 < c .counts .uncommitted ⌝ }
+    ensures { λ d. ⌜ d .first + d .counts .uncommitted + d .counts .waiting ≤ 64 ⌝ }
+    ensures { λ d. ⌜ Continued (now (live .entry)) (now (runs .entry)) (now (undo .entry)) (now (room .entry)) (now (cells .entry)) c f
+        (now (runs .exit)) (now (undo .exit)) (now (room .exit)) (now (cells .exit)) d ⌝ }
+    ensures { λ d. ⌜ Kept c d ⌝ }
 {
     let number = operations::number_at(live, record::LIVE_WORDS * c.first as usize);
     let r = operations::continue_fragment(cells, f, undo, c.entries);
@@ -61,10 +65,10 @@ pub(crate) fn continue_front(
     let w = rows::run_row(before + 1, state, 0, entries, 0, 0, [0u32; 8]);
     record::lay(runs, 0, &w, record::RUN_WIDTH);
     put_answer(room, c.answers, number, 0, r);
-    Counts {
+    let counts = c.counts;
+    Course {
+        counts: counts,
         first: c.first,
-        uncommitted: c.uncommitted,
-        waiting: c.waiting,
         entries: entries,
         answers: c.answers + 1,
     }

@@ -1,30 +1,29 @@
 // The engine of one partition: `start`, `call` by speculation, and `call_by` a scheme.
 ghost use Rattle.record.specs.Widths.{liveWidth};
 ghost use mathlib.Core.Path.{_≡_};
-ghost use mathlib.Core.List.{List, [], _∷_};
 ghost use Prim.Native.Nat.{ℕ, _+_, _*_, _≤_};
 ghost use lib.ListN.{length};
 ghost use lib.Seq.{sets};
-ghost use Rattle.model.specs.Transactions.{Engine};
-ghost use Rattle.model.specs.Refusals.{refusal, request, taken};
+ghost use Rattle.model.specs.Refusals.{refusal};
 ghost use Rattle.model.specs.Refusals as Refusals;
 ghost use Rattle.model.specs.declared.Scheme.{Scheme};
 ghost use Rattle.model.specs.declared.Scheme.the-variants.{Speculation};
 ghost use Rattle.record.specs.Words.{rowWords, pack};
-ghost use Rattle.record.specs.View.{viewOf};
+ghost use Rattle.record.specs.View.{viewBy};
 ghost use Rattle.refusals.specs.Rest.{callOf};
-ghost use Rattle.engine.specs.Work.{Left, waitingMore};
+ghost use Rattle.engine.specs.Work.{Kept, waitingMore};
 ghost use Rattle.engine.specs.Called.{called, cellsAfter, roomAfter, freshOf, recordBy, lentCall};
-ghost use Rattle.engine.specs.Ready.{Ready, largestBy};
-use crate::counts::Counts;
+ghost use Rattle.engine.specs.Ready.{Accepts, Accepted};
+use crate::course::Course;
 use model::Event;
 use model::Fragment;
 use model::Scheme;
+use record::Counts;
 use record::Record;
 
 mod abort;
 mod answers;
-mod counts;
+mod course;
 mod drain;
 mod front;
 mod settle;
@@ -47,9 +46,7 @@ pub struct Called {
 pub struct LentCall {
     pub number: u32,
     pub answers: u32,
-    pub largest: u32,
-    pub uncommitted: u32,
-    pub waiting: u32,
+    pub counts: Counts,
 }
 
 // What starting returns: the number and the record.
@@ -60,10 +57,7 @@ pub struct Fresh {
 
 // The refusal of a call, 0 for none, whatever the scheme: soundness first, then the other rows of the table.
 pub(crate) fn refused(
-    count: u32,
-    largest: u32,
-    uncommitted: u32,
-    waiting: u32,
+    counts: Counts,
     live: &[u32],
     runs: &[u32],
     undo: &[u32],
@@ -71,36 +65,27 @@ pub(crate) fn refused(
     room: &[u32],
     event: Event,
 ) -> u32
-    ensures { λ r. ⌜ ((σ : Scheme) → r ≡ refusal (viewOf count largest uncommitted waiting (now (live .entry)) (now (runs .entry)) (now (undo .entry))) (callOf σ event (now (cells .entry)) (now (room .entry)))) ⌝ }
+    ensures { λ r. ⌜ ((σ : Scheme) → r ≡ refusal (viewBy counts (now (live .entry)) (now (runs .entry)) (now (undo .entry)))
+        (callOf σ event (now (cells .entry)) (now (room .entry)))) ⌝ }
 {
-    if soundness::is_sound(count, largest, uncommitted, waiting, live, runs, undo) {
-        refusals::refused_row(
-            count,
-            largest,
-            uncommitted,
-            waiting,
-            live,
-            runs,
-            undo,
-            cells,
-            room,
-            event,
-        )
+    if soundness::is_sound(counts, live, runs, undo) {
+        refusals::refused_row(counts, live, runs, undo, cells, room, event)
     } else {
         1
     }
 }
 
 // "Arrival, new number: join the end of the waiting queue".
-pub(crate) fn join_waiting(live: &mut [u32], c: Counts, number: u32, f: Fragment) -> Counts
-    requires { ⌜ c .first + c .uncommitted + c .waiting ≤ 64 ⌝ }
+pub(crate) fn join_waiting(live: &mut [u32], c: Course, number: u32, f: Fragment) -> Course
+    requires { ⌜ c .first + c .counts .uncommitted + c .counts .waiting ≤ 64 ⌝ }
     ensures { λ d. ⌜ d ≡ waitingMore c ⌝ }
-    ensures { λ d. ⌜ now (live .exit) ≡ sets (now (live .entry)) (liveWidth * (c .first + c .uncommitted + c .waiting)) (rowWords number f) ⌝ }
+    ensures { λ d. ⌜ now (live .exit)
+        ≡ sets (now (live .entry)) (liveWidth * (c .first + c .counts .uncommitted + c .counts .waiting)) (rowWords number f) ⌝ }
 {
     let w = record::row_words(number, f);
     record::lay(
         live,
-        record::LIVE_WIDTH * (c.first + c.uncommitted + c.waiting),
+        record::LIVE_WIDTH * (c.first + c.counts.uncommitted + c.counts.waiting),
         &w,
         record::LIVE_WIDTH,
     );
@@ -115,17 +100,19 @@ pub(crate) fn accept_fragment(
     undo: &mut [u32],
     cells: &mut [u32],
     room: &mut [u32],
-    c: Counts,
+    c: Course,
     event: Event,
-) -> Counts
-    requires { ⌜ ((e : Engine) × Ready scheme (now live) (now runs) (now undo) (now room) (now cells) c event e) ⌝ }
+) -> Course
+    requires { ⌜ Accepts scheme (now live) (now runs) (now undo) (now room) (now cells) c event ⌝ }
     requires { ⌜ event .kind ≡ 1 ⌝ }
-    ensures { λ d. ⌜ ((e : Engine) → Ready scheme (now (live .entry)) (now (runs .entry)) (now (undo .entry)) (now (room .entry)) (now (cells .entry)) c event e → Left (now (live .exit)) (now (runs .exit)) (now (undo .exit)) (now (room .exit)) d (now (cells .exit)) [] (now (room .entry)) (taken scheme (request event) e (now (cells .entry)))) ⌝ }
-    ensures { λ d. ⌜ d .first + d .uncommitted + d .waiting ≤ 64 ⌝ }
+    ensures { λ d. ⌜ Accepted scheme (now (live .entry)) (now (runs .entry)) (now (undo .entry)) (now (room .entry)) (now (cells .entry)) c event
+        (now (live .exit)) (now (runs .exit)) (now (undo .exit)) (now (room .exit)) (now (cells .exit)) d ⌝ }
+    ensures { λ d. ⌜ d .first + d .counts .uncommitted + d .counts .waiting ≤ 64 ⌝ }
+    ensures { λ d. ⌜ Kept c d ⌝ }
 {
     let number = event.number;
     let f = event.fragment;
-    if refusals::is_front(c.uncommitted, live, number) {
+    if refusals::is_front(c.counts.uncommitted, live, number) {
         let d = front::continue_front(live, runs, undo, cells, room, c, f);
         return drain::drain(scheme, live, runs, undo, cells, room, d);
     }
@@ -141,13 +128,15 @@ pub(crate) fn accept_commit(
     undo: &mut [u32],
     cells: &mut [u32],
     room: &mut [u32],
-    c: Counts,
+    c: Course,
     event: Event,
-) -> Counts
-    requires { ⌜ ((e : Engine) × Ready scheme (now live) (now runs) (now undo) (now room) (now cells) c event e) ⌝ }
+) -> Course
+    requires { ⌜ Accepts scheme (now live) (now runs) (now undo) (now room) (now cells) c event ⌝ }
     requires { ⌜ event .kind ≡ 2 ⌝ }
-    ensures { λ d. ⌜ ((e : Engine) → Ready scheme (now (live .entry)) (now (runs .entry)) (now (undo .entry)) (now (room .entry)) (now (cells .entry)) c event e → Left (now (live .entry)) (now (runs .exit)) (now (undo .exit)) (now (room .exit)) d (now (cells .exit)) [] (now (room .entry)) (taken scheme (request event) e (now (cells .entry)))) ⌝ }
-    ensures { λ d. ⌜ d .first + d .uncommitted + d .waiting ≤ 64 ⌝ }
+    ensures { λ d. ⌜ Accepted scheme (now (live .entry)) (now (runs .entry)) (now (undo .entry)) (now (room .entry)) (now (cells .entry)) c event
+        (now (live .entry)) (now (runs .exit)) (now (undo .exit)) (now (room .exit)) (now (cells .exit)) d ⌝ }
+    ensures { λ d. ⌜ d .first + d .counts .uncommitted + d .counts .waiting ≤ 64 ⌝ }
+    ensures { λ d. ⌜ Kept c d ⌝ }
 {
     let d = settle::commit(live, runs, undo, room, c);
     drain::drain(scheme, live, runs, undo, cells, room, d)
@@ -161,13 +150,15 @@ pub(crate) fn accept_abort(
     undo: &mut [u32],
     cells: &mut [u32],
     room: &mut [u32],
-    c: Counts,
+    c: Course,
     event: Event,
-) -> Counts
-    requires { ⌜ ((e : Engine) × Ready scheme (now live) (now runs) (now undo) (now room) (now cells) c event e) ⌝ }
+) -> Course
+    requires { ⌜ Accepts scheme (now live) (now runs) (now undo) (now room) (now cells) c event ⌝ }
     requires { ⌜ (event .kind ≡ 1 → ⊥) × (event .kind ≡ 2 → ⊥) ⌝ }
-    ensures { λ d. ⌜ ((e : Engine) → Ready scheme (now (live .entry)) (now (runs .entry)) (now (undo .entry)) (now (room .entry)) (now (cells .entry)) c event e → Left (now (live .entry)) (now (runs .exit)) (now (undo .exit)) (now (room .exit)) d (now (cells .exit)) [] (now (room .entry)) (taken scheme (request event) e (now (cells .entry)))) ⌝ }
-    ensures { λ d. ⌜ d .first + d .uncommitted + d .waiting ≤ 64 ⌝ }
+    ensures { λ d. ⌜ Accepted scheme (now (live .entry)) (now (runs .entry)) (now (undo .entry)) (now (room .entry)) (now (cells .entry)) c event
+        (now (live .entry)) (now (runs .exit)) (now (undo .exit)) (now (room .exit)) (now (cells .exit)) d ⌝ }
+    ensures { λ d. ⌜ d .first + d .counts .uncommitted + d .counts .waiting ≤ 64 ⌝ }
+    ensures { λ d. ⌜ Kept c d ⌝ }
 {
     let d = abort::abort(runs, undo, cells, c);
     drain::drain(scheme, live, runs, undo, cells, room, d)
@@ -181,12 +172,14 @@ pub(crate) fn accept(
     undo: &mut [u32],
     cells: &mut [u32],
     room: &mut [u32],
-    c: Counts,
+    c: Course,
     event: Event,
-) -> Counts
-    requires { ⌜ ((e : Engine) × Ready scheme (now live) (now runs) (now undo) (now room) (now cells) c event e) ⌝ }
-    ensures { λ d. ⌜ ((e : Engine) → Ready scheme (now (live .entry)) (now (runs .entry)) (now (undo .entry)) (now (room .entry)) (now (cells .entry)) c event e → Left (now (live .exit)) (now (runs .exit)) (now (undo .exit)) (now (room .exit)) d (now (cells .exit)) [] (now (room .entry)) (taken scheme (request event) e (now (cells .entry)))) ⌝ }
-    ensures { λ d. ⌜ d .first + d .uncommitted + d .waiting ≤ 64 ⌝ }
+) -> Course
+    requires { ⌜ Accepts scheme (now live) (now runs) (now undo) (now room) (now cells) c event ⌝ }
+    ensures { λ d. ⌜ Accepted scheme (now (live .entry)) (now (runs .entry)) (now (undo .entry)) (now (room .entry)) (now (cells .entry)) c event
+        (now (live .exit)) (now (runs .exit)) (now (undo .exit)) (now (room .exit)) (now (cells .exit)) d ⌝ }
+    ensures { λ d. ⌜ d .first + d .counts .uncommitted + d .counts .waiting ≤ 64 ⌝ }
+    ensures { λ d. ⌜ Kept c d ⌝ }
 {
     if event.kind == 1 {
         return accept_fragment(scheme, live, runs, undo, cells, room, c, event);
@@ -197,24 +190,10 @@ pub(crate) fn accept(
     accept_abort(scheme, live, runs, undo, cells, room, c, event)
 }
 
-// The largest number accepted, after an accepted event.
-pub(crate) fn largest_after(kind: u32, number: u32, largest: u32) -> u32
-    ensures { λ r. ⌜ r ≡ largestBy kind number largest ⌝ }
-{
-    if kind == 1 {
-        if largest < number { number } else { largest }
-    } else {
-        largest
-    }
-}
-
 // A call on a record whose rows are lent: refused with nothing touched, or carried out where the rows stand.
 pub fn call_lent(
     scheme: Scheme,
-    count: u32,
-    largest: u32,
-    uncommitted: u32,
-    waiting: u32,
+    counts: Counts,
     live: &mut Live,
     runs: &mut Runs,
     undo: &mut Undone,
@@ -222,36 +201,25 @@ pub fn call_lent(
     event: Event,
     room: &mut [u32],
 ) -> LentCall
-    ensures { λ d. ⌜ lentCall count d (now (live .exit)) (now (runs .exit)) (now (undo .exit)) ≡ called scheme (recordBy count largest uncommitted waiting (now (live .entry)) (now (runs .entry)) (now (undo .entry))) event (now (cells .entry)) (now (room .entry)) ⌝ }
-    ensures { λ d. ⌜ now (cells .exit) ≡ cellsAfter scheme (recordBy count largest uncommitted waiting (now (live .entry)) (now (runs .entry)) (now (undo .entry))) event (now (cells .entry)) (now (room .entry)) ⌝ }
-    ensures { λ d. ⌜ now (room .exit) ≡ roomAfter scheme (recordBy count largest uncommitted waiting (now (live .entry)) (now (runs .entry)) (now (undo .entry))) event (now (cells .entry)) (now (room .entry)) ⌝ }
+    ensures { λ d. ⌜ lentCall d (now (live .exit)) (now (runs .exit)) (now (undo .exit))
+        ≡ called scheme (recordBy counts (now (live .entry)) (now (runs .entry)) (now (undo .entry))) event (now (cells .entry)) (now (room .entry)) ⌝ }
+    ensures { λ d. ⌜ now (cells .exit)
+        ≡ cellsAfter scheme (recordBy counts (now (live .entry)) (now (runs .entry)) (now (undo .entry))) event (now (cells .entry)) (now (room .entry)) ⌝ }
+    ensures { λ d. ⌜ now (room .exit)
+        ≡ roomAfter scheme (recordBy counts (now (live .entry)) (now (runs .entry)) (now (undo .entry))) event (now (cells .entry)) (now (room .entry)) ⌝ }
 {
-    let number = refused(
-        count,
-        largest,
-        uncommitted,
-        waiting,
-        live,
-        runs,
-        undo,
-        cells,
-        room,
-        event,
-    );
+    let number = refused(counts, live, runs, undo, cells, room, event);
     if number != 0 {
         return LentCall {
             number: number,
             answers: 0,
-            largest: largest,
-            uncommitted: uncommitted,
-            waiting: waiting,
+            counts: counts,
         };
     }
-    let entries = tidy::tidy(uncommitted, waiting, live, runs, undo);
-    let c = Counts {
+    let entries = tidy::tidy(counts, live, runs, undo);
+    let c = Course {
+        counts: counts.accepts(event.kind, event.number),
         first: 0,
-        uncommitted: uncommitted,
-        waiting: waiting,
         entries: entries,
         answers: 0,
     };
@@ -259,14 +227,13 @@ pub fn call_lent(
     record::shift(
         live,
         record::LIVE_WIDTH * d.first,
-        record::LIVE_WIDTH * (d.first + d.uncommitted + d.waiting),
+        record::LIVE_WIDTH * (d.first + d.counts.uncommitted + d.counts.waiting),
     );
+    let next = d.counts;
     LentCall {
         number: 0,
         answers: d.answers,
-        largest: largest_after(event.kind, event.number, largest),
-        uncommitted: d.uncommitted,
-        waiting: d.waiting,
+        counts: next,
     }
 }
 
@@ -283,15 +250,13 @@ pub fn call_by(
     ensures { λ d. ⌜ now (cells .exit) ≡ cellsAfter scheme r event (now (cells .entry)) (now (room .entry)) ⌝ }
     ensures { λ d. ⌜ now (room .exit) ≡ roomAfter scheme r event (now (cells .entry)) (now (room .entry)) ⌝ }
 {
+    let counts = r.counts;
     let mut live = r.live;
     let mut runs = r.runs;
     let mut undo = r.undo;
     let t = call_lent(
         scheme,
-        r.count,
-        r.largest,
-        r.uncommitted,
-        r.waiting,
+        counts,
         &mut live,
         &mut runs,
         &mut undo,
@@ -299,11 +264,9 @@ pub fn call_by(
         event,
         room,
     );
+    let counts_after = t.counts;
     let next = Record {
-        count: r.count,
-        largest: t.largest,
-        uncommitted: t.uncommitted,
-        waiting: t.waiting,
+        counts: counts_after,
         live: live,
         runs: runs,
         undo: undo,
@@ -329,10 +292,12 @@ pub(crate) fn empty(count: u32) -> Record
     ensures { λ r. ⌜ r ≡ pack (Refusals.empty count) ⌝ }
 {
     Record {
-        count: count,
-        largest: 0,
-        uncommitted: 0,
-        waiting: 0,
+        counts: Counts {
+            cells: count,
+            largest: 0,
+            uncommitted: 0,
+            waiting: 0,
+        },
         live: [0u32; record::LIVE_LENGTH],
         runs: [0u32; record::RUNS_LENGTH],
         undo: [0u32; record::UNDO_LENGTH],

@@ -2,24 +2,29 @@
 ghost use mathlib.Core.Path.{_≡_};
 ghost use Prim.Native.Nat.{_+_, _*_, _≤_, _<_};
 ghost use lib.Seq.{sets};
-ghost use Rattle.engine.specs.Work.{withAnswers, Fair, Dropped, SettledOne, Singles, Fronted, Settled, Committed};
+ghost use Rattle.engine.specs.Work.{Kept, withAnswers, Fair, Dropped, SettledOne, Singles, Fronted, Settled, Committed};
 ghost use Rattle.model.specs.Limits.{answerWords};
 ghost use Rattle.record.specs.Widths.{runWidth};
 ghost use Rattle.rows.specs.Rows.{holdsRow, heldRow, sentRow};
 ghost use Rattle.model.specs.Operations.{pick};
-use crate::counts::Counts;
+use crate::course::Course;
 
 // The first uncommitted one leaves the queue: its run and its entries, the oldest, are shifted out.
-pub(crate) fn drop_front(runs: &mut [u32], undo: &mut [u32], c: Counts) -> Counts
+pub(crate) fn drop_front(runs: &mut [u32], undo: &mut [u32], c: Course) -> Course
     requires { ⌜ Fair c ⌝ }
-    requires { ⌜ 0 < c .uncommitted ⌝ }
+    requires { ⌜ 0 < c .counts .uncommitted ⌝ }
     ensures { λ d. ⌜ Fair d ⌝ }
-    ensures { λ d. ⌜ (d .uncommitted + 1 ≡ c .uncommitted) × (d .waiting ≡ c .waiting) × (d .answers ≡ c .answers) ⌝ }
+    ensures { λ d. ⌜ (d .counts .uncommitted + 1 ≡ c .counts .uncommitted) × (d .counts .waiting ≡ c .counts .waiting) × (d .answers ≡ c .answers) ⌝ }
     ensures { λ d. ⌜ Dropped (now (runs .entry)) (now (undo .entry)) c (now (runs .exit)) (now (undo .exit)) d ⌝ }
+    ensures { λ d. ⌜ Kept c d ⌝ }
 {
     let own = operations::number_at(runs, 3);
     let e = rows::least(own, c.entries);
-    record::shift(runs, record::RUN_WIDTH, record::RUN_WIDTH * c.uncommitted);
+    record::shift(
+        runs,
+        record::RUN_WIDTH,
+        record::RUN_WIDTH * c.counts.uncommitted,
+    );
     record::shift(
         undo,
         record::ENTRY_WIDTH * e,
@@ -39,7 +44,8 @@ pub(crate) fn put_held(
 ) -> u32
     requires { ⌜ answers < 64 ⌝ }
     ensures { λ a. ⌜ a ≡ pick (holdsRow (now (runs .entry)) (runWidth * i)) (answers + 1) answers ⌝ }
-    ensures { λ a. ⌜ now (room .exit) ≡ pick (holdsRow (now (runs .entry)) (runWidth * i)) (sets (now (room .entry)) (answerWords * answers) (heldRow (now (runs .entry)) (runWidth * i) number dependence)) (now (room .entry)) ⌝ }
+    ensures { λ a. ⌜ now (room .exit) ≡ pick (holdsRow (now (runs .entry)) (runWidth * i))
+        (sets (now (room .entry)) (answerWords * answers) (heldRow (now (runs .entry)) (runWidth * i) number dependence)) (now (room .entry)) ⌝ }
 {
     let reply = operations::number_at(runs, record::RUN_WORDS * i as usize + 2);
     if reply == 1 {
@@ -57,24 +63,20 @@ pub(crate) fn settle_one(
     runs: &mut [u32],
     undo: &mut [u32],
     room: &mut [u32],
-    c: Counts,
-) -> Counts
+    c: Course,
+) -> Course
     requires { ⌜ Fair c ⌝ }
-    requires { ⌜ 0 < c .uncommitted ⌝ }
+    requires { ⌜ 0 < c .counts .uncommitted ⌝ }
     ensures { λ d. ⌜ Fair d ⌝ }
-    ensures { λ d. ⌜ d .uncommitted + 1 ≡ c .uncommitted ⌝ }
-    ensures { λ d. ⌜ SettledOne (now (live .entry)) (now (runs .entry)) (now (undo .entry)) (now (room .entry)) c (now (runs .exit)) (now (undo .exit)) (now (room .exit)) d ⌝ }
+    ensures { λ d. ⌜ d .counts .uncommitted + 1 ≡ c .counts .uncommitted ⌝ }
+    ensures { λ d. ⌜ SettledOne (now (live .entry)) (now (runs .entry)) (now (undo .entry)) (now (room .entry)) c
+        (now (runs .exit)) (now (undo .exit)) (now (room .exit)) d ⌝ }
+    ensures { λ d. ⌜ Kept c d ⌝ }
 {
     let number = operations::number_at(live, record::LIVE_WORDS * c.first as usize);
     let answers = put_held(room, c.answers, runs, 0, number, 0);
     let d = drop_front(runs, undo, c);
-    Counts {
-        first: d.first,
-        uncommitted: d.uncommitted,
-        waiting: d.waiting,
-        entries: d.entries,
-        answers: answers,
-    }
+    d.sends(answers)
 }
 
 // "Then singles settle and are answered from the front of the queue until a multi is first."
@@ -83,14 +85,16 @@ pub(crate) fn settle_singles(
     runs: &mut [u32],
     undo: &mut [u32],
     room: &mut [u32],
-    from: Counts,
-) -> Counts
+    from: Course,
+) -> Course
     requires { ⌜ Fair from ⌝ }
     ensures { λ d. ⌜ Fair d ⌝ }
-    ensures { λ d. ⌜ Singles (now (live .entry)) (now (runs .entry)) (now (undo .entry)) (now (room .entry)) from (now (runs .exit)) (now (undo .exit)) (now (room .exit)) d ⌝ }
+    ensures { λ d. ⌜ Singles (now (live .entry)) (now (runs .entry)) (now (undo .entry)) (now (room .entry)) from
+        (now (runs .exit)) (now (undo .exit)) (now (room .exit)) d ⌝ }
+    ensures { λ d. ⌜ Kept from d ⌝ }
 {
     let mut c = from;
-    while 0 < c.uncommitted {
+    while 0 < c.counts.uncommitted {
         if rows::is_multi_row(live, record::LIVE_WIDTH * c.first) {
             return c;
         }
@@ -113,24 +117,18 @@ pub(crate) fn mark_sent(runs: &mut [u32], i: u32)
 }
 
 // "That one is the new front; if its answer was held, it is sent now with dependence 0".
-pub(crate) fn new_front(live: &[u32], runs: &mut [u32], room: &mut [u32], c: Counts) -> Counts
+pub(crate) fn new_front(live: &[u32], runs: &mut [u32], room: &mut [u32], c: Course) -> Course
     requires { ⌜ Fair c ⌝ }
     ensures { λ d. ⌜ d ≡ withAnswers (d .answers) c ⌝ }
     ensures { λ d. ⌜ Fronted (now (live .entry)) (now (runs .entry)) (now (room .entry)) c (now (runs .exit)) (now (room .exit)) d ⌝ }
 {
-    if c.uncommitted == 0 {
+    if c.counts.uncommitted == 0 {
         return c;
     }
     let number = operations::number_at(live, record::LIVE_WORDS * c.first as usize);
     let answers = put_held(room, c.answers, runs, 0, number, 0);
     mark_sent(runs, 0);
-    Counts {
-        first: c.first,
-        uncommitted: c.uncommitted,
-        waiting: c.waiting,
-        entries: c.entries,
-        answers: answers,
-    }
+    c.sends(answers)
 }
 
 // What a commit leaves behind the front: singles settled, a new front that is answered.
@@ -139,11 +137,13 @@ pub(crate) fn settle(
     runs: &mut [u32],
     undo: &mut [u32],
     room: &mut [u32],
-    c: Counts,
-) -> Counts
+    c: Course,
+) -> Course
     requires { ⌜ Fair c ⌝ }
-    ensures { λ d. ⌜ d .first + d .uncommitted + d .waiting ≤ 64 ⌝ }
-    ensures { λ d. ⌜ Settled (now (live .entry)) (now (runs .entry)) (now (undo .entry)) (now (room .entry)) c (now (runs .exit)) (now (undo .exit)) (now (room .exit)) d ⌝ }
+    ensures { λ d. ⌜ d .first + d .counts .uncommitted + d .counts .waiting ≤ 64 ⌝ }
+    ensures { λ d. ⌜ Settled (now (live .entry)) (now (runs .entry)) (now (undo .entry)) (now (room .entry)) c
+        (now (runs .exit)) (now (undo .exit)) (now (room .exit)) d ⌝ }
+    ensures { λ d. ⌜ Kept c d ⌝ }
 {
     let d = settle_singles(live, runs, undo, room, c);
     new_front(live, runs, room, d)
@@ -155,12 +155,14 @@ pub(crate) fn commit(
     runs: &mut [u32],
     undo: &mut [u32],
     room: &mut [u32],
-    c: Counts,
-) -> Counts
+    c: Course,
+) -> Course
     requires { ⌜ Fair c ⌝ }
-    requires { ⌜ 0 < c .uncommitted ⌝ }
-    ensures { λ d. ⌜ d .first + d .uncommitted + d .waiting ≤ 64 ⌝ }
-    ensures { λ d. ⌜ Committed (now (live .entry)) (now (runs .entry)) (now (undo .entry)) (now (room .entry)) c (now (runs .exit)) (now (undo .exit)) (now (room .exit)) d ⌝ }
+    requires { ⌜ 0 < c .counts .uncommitted ⌝ }
+    ensures { λ d. ⌜ d .first + d .counts .uncommitted + d .counts .waiting ≤ 64 ⌝ }
+    ensures { λ d. ⌜ Committed (now (live .entry)) (now (runs .entry)) (now (undo .entry)) (now (room .entry)) c
+        (now (runs .exit)) (now (undo .exit)) (now (room .exit)) d ⌝ }
+    ensures { λ d. ⌜ Kept c d ⌝ }
 {
     let d = drop_front(runs, undo, c);
     settle(live, runs, undo, room, d)

@@ -152,8 +152,10 @@ pub(crate) fn put_events(
     buffer: &mut [u8],
 ) -> u32
     requires { ⌜ (first ≤ 4100) × (events ≤ 256) ⌝ }
-    ensures { λ r. ⌜ now (cells .exit) ≡ played scheme (now (bytes .entry)) first events (playing start (now (cells .entry)) (now (room .entry))) .cells ⌝ }
-    ensures { λ r. ⌜ Put from (now (buffer .entry)) (now (buffer .exit)) 0 r (together (eventsLines scheme (now (bytes .entry)) 1 first events (playing start (now (cells .entry)) (now (room .entry))))) ⌝ }
+    ensures { λ r. ⌜ now (cells .exit)
+        ≡ played scheme (now (bytes .entry)) first events (playing start (now (cells .entry)) (now (room .entry))) .cells ⌝ }
+    ensures { λ r. ⌜ Put from (now (buffer .entry)) (now (buffer .exit)) 0 r
+        (together (eventsLines scheme (now (bytes .entry)) 1 first events (playing start (now (cells .entry)) (now (room .entry))))) ⌝ }
 {
     let mut record = start;
     let mut p: u32 = 0;
@@ -182,7 +184,8 @@ pub(crate) fn put_trace(
     buffer: &mut [u8],
 ) -> u32
     requires { ⌜ (count ≤ 4096) × (first ≤ 4100) × (events ≤ 256) ⌝ }
-    ensures { λ r. ⌜ Put from (now (buffer .entry)) (now (buffer .exit)) 0 r (together (traceLines scheme (now (bytes .entry)) count events first (now (cells .entry)) (now (room .entry)))) ⌝ }
+    ensures { λ r. ⌜ Put from (now (buffer .entry)) (now (buffer .exit)) 0 r
+        (together (traceLines scheme (now (bytes .entry)) count events first (now (cells .entry)) (now (room .entry)))) ⌝ }
 {
     trace::copy_cells(bytes, count, cells);
     let fresh = engine::start(count);
@@ -212,7 +215,8 @@ pub(crate) fn put_run(
     buffer: &mut [u8],
 ) -> u32
     requires { ⌜ (count ≤ 4096) × (first ≤ 4100) × (events ≤ 256) ⌝ }
-    ensures { λ r. ⌜ Put from (now (buffer .entry)) (now (buffer .exit)) 0 r (together (traceLines scheme (now (bytes .entry)) count events first (replicate count 0) (replicate 1024 0))) ⌝ }
+    ensures { λ r. ⌜ Put from (now (buffer .entry)) (now (buffer .exit)) 0 r
+        (together (traceLines scheme (now (bytes .entry)) count events first (replicate count 0) (replicate 1024 0))) ⌝ }
 {
     let mut cells = [0u32; 4096];
     let mut room = [0u32; 1024];

@@ -53,15 +53,16 @@ from-earlier us p (o ∷ os) cs ns own h =
 pub run-earlier : (f : Fragment) (cs : Cells) (us : List Undo) → run f cs us ≡ withEarlier us (run f cs [])
 run-earlier f cs us = ap (runFrom 1 (operations f) cs []) (sym (append-nil us)) ∙ from-earlier us 1 (operations f) cs [] [] (omega arith)
 
--- one entry at most for each operation
-from-few : (p : ℕ) (os : List Op) (cs : Cells) (ns : List ℕ) (us : List Undo) → length (runFrom p os cs ns us .undo) ≤ length us + length os
+-- one entry and one number at most for each operation
+from-few : (p : ℕ) (os : List Op) (cs : Cells) (ns : List ℕ) (us : List Undo)
+    → (length (runFrom p os cs ns us .undo) ≤ length us + length os) × (length (runFrom p os cs ns us .outcome .numbers) ≤ length ns + length os)
 unfolding runFrom
-from-few p [] cs ns us = omega arith
+from-few p [] cs ns us = (omega arith, omega arith)
 from-few p (o ∷ os) cs ns us =
     elim (operate o cs)
-    as (λ d. length (by d .undo) ≤ length us + suc (length os)) [
-      | Number y ↦ omega (arith, from-few (suc p) os (put o y cs) (ns ++ (y ∷ [])) (noted o cs us), few (writes (o .code)))
-      | Fails ↦ omega arith
+    as (λ d. (length (by d .undo) ≤ length us + suc (length os)) × (length (by d .outcome .numbers) ≤ length ns + suc (length os))) [
+      | Number y ↦ let r = from-few (suc p) os (put o y cs) (ns ++ (y ∷ [])) (noted o cs us) in (omega (arith, r .0, few (writes (o .code))), omega (arith, r .1, length-append ns (y ∷ [])))
+      | Fails ↦ (omega arith, omega arith)
     ]
   where
     by : Did → Ran
@@ -75,27 +76,10 @@ from-few p (o ∷ os) cs ns us =
     few false = omega arith
 
 pub run-few : (f : Fragment) (cs : Cells) → length (run f cs [] .undo) ≤ length (operations f)
-run-few f cs = omega (arith, from-few 1 (operations f) cs [] [])
-
--- one number at most for each operation
-from-numbers : (p : ℕ) (os : List Op) (cs : Cells) (ns : List ℕ) (us : List Undo) → length (runFrom p os cs ns us .outcome .numbers) ≤ length ns + length os
-unfolding runFrom
-from-numbers p [] cs ns us = omega arith
-from-numbers p (o ∷ os) cs ns us =
-    elim (operate o cs)
-    as (λ d. length (by d .outcome .numbers) ≤ length ns + suc (length os)) [
-      | Number y ↦ omega (arith, from-numbers (suc p) os (put o y cs) (ns ++ (y ∷ [])) (noted o cs us), length-append ns (y ∷ []))
-      | Fails ↦ omega arith
-    ]
-  where
-    by : Did → Ran
-    by d = elim d [
-      | Number y ↦ runFrom (suc p) os (put o y cs) (ns ++ (y ∷ [])) (noted o cs us)
-      | Fails ↦ record { cells = undone us cs; outcome = record { place = p; numbers = [] }; undo = [] }
-    ]
+run-few f cs = omega (arith, from-few 1 (operations f) cs [] [] .0)
 
 pub run-numbers : (f : Fragment) (cs : Cells) → length (run f cs [] .outcome .numbers) ≤ length (operations f)
-run-numbers f cs = omega (arith, from-numbers 1 (operations f) cs [] [])
+run-numbers f cs = omega (arith, from-few 1 (operations f) cs [] [] .1)
 
 -- what a later fragment tells is what it tells by itself
 pub outcome-earlier : (f : Fragment) (cs : Cells) (us : List Undo) → run f cs us .outcome ≡ run f cs [] .outcome

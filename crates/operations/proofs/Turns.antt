@@ -52,7 +52,7 @@ module _ (o : Op) (cs : Cells) (x : ℕ) (d : Did) (ex : x ≡ getD cs (o .cell)
 -- Rows of entries
 
 -- m + n entries are m of them and n behind these
-entries-append : (l : List ℕ) (b m n : ℕ) → entriesOf l b (m + n) ≡ entriesOf l b m ++ entriesOf l (b + 2 * m) n
+pub entries-append : (l : List ℕ) (b m n : ℕ) → entriesOf l b (m + n) ≡ entriesOf l b m ++ entriesOf l (b + 2 * m) n
 unfolding entriesOf
 entries-append l b zero n =
     let e : b + 2 * 0 ≡ b = omega arith in

@@ -1,36 +1,52 @@
 -- Reading back what a packed row holds: a transaction, a run, its entries; and the whole record: `view` of `pack` is what was packed.
-use Prim.Native.Nat.{ℕ, zero, suc, _+_, _*_, _-_, _≤_, _<_}
+use Prim.Native.Nat.{ℕ, _+_, _*_, _≤_, _<_}
 use native.Mathlib.Omega.{arith}
+use native.Mathlib.Nat.{mul-suc}
 use borrow.Author.Tests.{leb-true}
 use mathlib.Core.Path.{_≡_, refl, sym, ap, _∙_, subst}
-use mathlib.Core.Bool.{Bool, true, false, _&&_}
+use mathlib.Core.Bool.{Bool, true}
 use mathlib.Core.List.{List, [], _∷_, _++_, map, append-assoc, append-nil}
 use lib.Dec.{leb}
-use lib.ListN.{length, getD, replicate, length-append, length-map, List·getD-append}
+use lib.ListN.{length, getD, length-append, length-map, List·getD-append}
 use lib.Seq.{getD-append-add}
-use Rattle.model.specs.Operations.{Outcome}
 use Rattle.model.specs.Transactions.{State, Running, Finished, Failed, NoState, Reply, Held, Sent, NoReply, Uncommitted, Waiting, Engine, undoList}
-use Rattle.model.specs.Steps.{requeued}
 use Rattle.model.specs.Refusals.{fits, isState, isReply, sound}
 use Rattle.model.proofs.Chain.{all-append, all-map}
-use Rattle.model.proofs.Sound.{sound-parts, entries-most}
+use Rattle.model.proofs.Sound.{sound-parts}
 use Rattle.model.proofs.Tests.{and-left, and-right}
 use Rattle.model.specs.declared.Op.{Op}
 use Rattle.model.specs.declared.Fragment.{Fragment}
 use Rattle.model.specs.declared.Undo.{Undo}
 use Rattle.operations.specs.Laid.{padded, flat, entriesOf}
 use Rattle.operations.proofs.Turns.{noOp, length-padded}
-use Rattle.record.specs.Words.{opsWords, rowWords, allRows, stateWord, replyWord, heldOutcome, outcomeWords, runWords, allRuns, liveRows, pack}
-use Rattle.record.specs.View.{opAt, fragmentAt, waitingOf, numbersFrom, stateOf, replyOf, memberAt, uncommittedOf, viewOf, view}
-use Rattle.record.proofs.Rows.{getD-padded, numbers-same, numbers-whole, row-words, eight}
-use Rattle.model.specs.Parts.{All, SoundOne, Sound}
+use Rattle.record.specs.Words.{opsWords, rowWords, allRows, stateWord, replyWord, heldOutcome, runWords, rowsOf, allRuns, rowOf, liveRows, pack}
+use Rattle.record.specs.View.{fragmentAt, waitingOf, numbersFrom, stateOf, replyOf, memberAt, uncommittedOf, viewOf, view}
+use Rattle.record.proofs.Rows.{getD-padded, numbers-same, numbers-whole, fragment-same, row-words, eight}
+use Rattle.model.specs.Parts.{All, SoundOne}
 use Rattle.record.specs.Fitting.{Eight, Fit, Known}
-use Rattle.record.specs.Widths.{liveWidth, runWidth, liveLength, runsLength, undoLength}
+use Rattle.record.specs.Widths.{opWidth, liveWidth, runWidth, liveLength, runsLength, undoLength}
 
 -- a stretch of a padded row
-pub block-read : (n : ℕ) (X Y Z : List ℕ) (m k : ℕ) → length X ≡ m → k < length Y → getD (padded n (X ++ (Y ++ Z))) (m + k) 0 ≡ getD Y k 0
+block-read : (n : ℕ) (X Y Z : List ℕ) (m k : ℕ) → length X ≡ m → k < length Y → getD (padded n (X ++ (Y ++ Z))) (m + k) 0 ≡ getD Y k 0
 block-read n X Y Z m k e h =
     getD-padded n (X ++ (Y ++ Z)) (m + k) ∙ ap (λ (x : ℕ). getD (X ++ (Y ++ Z)) (x + k) 0) (sym e) ∙ getD-append-add X (Y ++ Z) k 0 ∙ List·getD-append Y Z 0 k h
+
+-- Rows of one width, one behind the other
+
+module _ {A : Type 0} (f : A → List ℕ) where
+  append-rows : (a b : List A) → rowsOf f (a ++ b) ≡ rowsOf f a ++ rowsOf f b
+  append-rows [] b = refl
+  append-rows (x ∷ a) b = ap (λ (l : List ℕ). f x ++ l) (append-rows a b) ∙ sym (append-assoc (f x) (rowsOf f a) (rowsOf f b))
+
+  module _ (width : ℕ) (P : A → Type 0) (wide : (a : A) → P a → length (f a) ≡ width) where
+    all-length : (l : List A) → All P l → length (rowsOf f l) ≡ width * length l
+    all-length [] h = omega arith
+    all-length (a ∷ l) h = length-append (f a) (rowsOf f l) ∙ omega (arith, wide a (h .0), all-length l (h .1), mul-suc width (length l))
+
+    -- word k of the row that stands behind the rows of X
+    word-read : (n : ℕ) (X : List A) (a : A) (Y : List A) (b k : ℕ) → All P X → P a → width * length X ≡ b → k < width → getD (padded n (rowsOf f (X ++ a ∷ Y))) (b + k) 0 ≡ getD (f a) k 0
+    word-read n X a Y b k hx ha e h =
+        ap (λ (l : List ℕ). getD (padded n l) (b + k) 0) (append-rows X (a ∷ Y)) ∙ block-read n (rowsOf f X) (f a) (rowsOf f Y) b k (all-length X hx ∙ e) (subst (λ (x : ℕ). k < x) (sym (wide a ha)) h)
 
 -- Transactions
 
@@ -42,7 +58,7 @@ pub eights-rest : (a b : List Waiting) → All Eight (a ++ b) → All Eight b
 eights-rest [] b h = h
 eights-rest (x ∷ a) b h = eights-rest a b (h .1)
 
-length-ops : (os : List Op) → length (opsWords os) ≡ 3 * length os
+length-ops : (os : List Op) → length (opsWords os) ≡ opWidth * length os
 length-ops [] = omega arith
 length-ops (o ∷ os) = omega (arith, length-ops os)
 
@@ -50,51 +66,29 @@ pub length-row : (n : ℕ) (f : Fragment) → length (f .row) ≡ 8 → length (
 unfolding rowWords
 length-row n f h = omega (arith, length-ops (f .row))
 
+abbrev words : Waiting → List ℕ
+words w = rowWords (w .number) (w .fragment)
+
+wide-row : (w : Waiting) → Eight w → length (words w) ≡ liveWidth
+wide-row w h = length-row (w .number) (w .fragment) h
+
 pub length-rows : (ws : List Waiting) → All Eight ws → length (allRows ws) ≡ liveWidth * length ws
 unfolding allRows
-length-rows [] h = omega arith
-length-rows (w ∷ ws) h = length-append (rowWords (w .number) (w .fragment)) (allRows ws) ∙ omega (arith, length-row (w .number) (w .fragment) (h .0), length-rows ws (h .1))
+length-rows ws h = all-length words liveWidth Eight wide-row ws h
 
 pub rows-append : (a b : List Waiting) → allRows (a ++ b) ≡ allRows a ++ allRows b
 unfolding allRows
-rows-append [] b = refl
-rows-append (w ∷ a) b = ap (λ (x : List ℕ). rowWords (w .number) (w .fragment) ++ x) (rows-append a b) ∙ sym (append-assoc (rowWords (w .number) (w .fragment)) (allRows a) (allRows b))
-
--- l from b on and m from c on agree on a transaction's words
-abbrev pub Agree : List ℕ → ℕ → List ℕ → ℕ → Type 0
-Agree l b m c = (k : ℕ) → k < liveWidth → getD l (b + k) 0 ≡ getD m (c + k) 0
-
-module _ (l : List ℕ) (b : ℕ) (m : List ℕ) (c : ℕ) (a : Agree l b m c) where
-  word-same : (x y k : ℕ) → x ≡ b + k → y ≡ c + k → k < liveWidth → getD l x 0 ≡ getD m y 0
-  word-same x y k ex ey h = ap (λ (z : ℕ). getD l z 0) ex ∙ a k h ∙ ap (λ (z : ℕ). getD m z 0) (sym ey)
-
-  op-same : (o : ℕ) → o + 3 ≤ liveWidth → opAt l (b + o) ≡ opAt m (c + o)
-  op-same o h = λ i. record {
-    code = word-same (b + o) (c + o) o refl refl (omega arith) i;
-    cell = word-same (b + o + 1) (c + o + 1) (o + 1) (omega arith) (omega arith) (omega arith) i;
-    amount = word-same (b + o + 2) (c + o + 2) (o + 2) (omega arith) (omega arith) (omega arith) i;
-  }
-
-  pub fragment-same : fragmentAt l b ≡ fragmentAt m c
-  unfolding fragmentAt
-  fragment-same = λ i. record {
-    flags = a 1 (omega arith) i;
-    coordinator = a 2 (omega arith) i;
-    count = a 3 (omega arith) i;
-    row = op-same 4 (omega arith) i ∷ op-same 7 (omega arith) i ∷ op-same 10 (omega arith) i ∷ op-same 13 (omega arith) i ∷ op-same 16 (omega arith) i ∷ op-same 19 (omega arith) i ∷ op-same 22 (omega arith) i ∷ op-same 25 (omega arith) i ∷ [];
-  }
+rows-append a b = append-rows words a b
 
 fragment-of-words : (n : ℕ) (f : Fragment) → length (f .row) ≡ 8 → fragmentAt (rowWords n f) 0 ≡ f
 unfolding fragmentAt
 fragment-of-words n f h =
-    ap (λ (x : List ℕ). fragmentAt x 0) (sym (row-words n f h)) ∙ (λ i. record { flags = f .flags; coordinator = f .coordinator; count = f .count; row = eight (f .row) h i })
+    ap (λ (x : List ℕ). fragmentAt x 0) (sym (row-words n f h)) ∙ (λ i. record { flags = f .flags; coordinator = f .coordinator; count = f .count; row = eight noOp (f .row) h i })
 
 module _ (n : ℕ) (A : List Waiting) (t : Waiting) (B : List Waiting) (b : ℕ) (ea : All Eight A) (et : Eight t) (eb : liveWidth * length A ≡ b) where
   pub row-read : (k : ℕ) → k < liveWidth → getD (padded n (allRows (A ++ t ∷ B))) (b + k) 0 ≡ getD (rowWords (t .number) (t .fragment)) k 0
   unfolding allRows
-  row-read k h =
-      ap (λ (x : List ℕ). getD (padded n x) (b + k) 0) (rows-append A (t ∷ B))
-      ∙ block-read n (allRows A) (rowWords (t .number) (t .fragment)) (allRows B) b k (length-rows A ea ∙ eb) (subst (λ (x : ℕ). k < x) (sym (length-row (t .number) (t .fragment) et)) h)
+  row-read k h = word-read words liveWidth Eight wide-row n A t B b k ea et eb h
 
   pub fragment-back : fragmentAt (padded n (allRows (A ++ t ∷ B))) b ≡ t .fragment
   fragment-back =
@@ -105,19 +99,20 @@ module _ (n : ℕ) (A : List Waiting) (t : Waiting) (B : List Waiting) (b : ℕ)
   unfolding rowWords
   number-back = (let z : b ≡ b + 0 = omega arith in ap (λ (x : ℕ). getD (padded n (allRows (A ++ t ∷ B))) x 0) z) ∙ row-read 0 (omega arith)
 
-pub waiting-back : (n : ℕ) (A ws : List Waiting) (b : ℕ) → All Eight A → All Eight ws → liveWidth * length A ≡ b → waitingOf (padded n (allRows (A ++ ws))) b (length ws) ≡ ws
+-- the rows of ws read back, behind those of A and before those of B
+pub waiting-back : (n : ℕ) (A ws B : List Waiting) (b : ℕ) → All Eight A → All Eight ws → liveWidth * length A ≡ b → waitingOf (padded n (allRows (A ++ (ws ++ B)))) b (length ws) ≡ ws
 unfolding waitingOf
-waiting-back n A [] b ea ew e = refl
-waiting-back n A (w ∷ ws) b ea ew e =
-    let l : (A ++ (w ∷ [])) ++ ws ≡ A ++ w ∷ ws = append-assoc A (w ∷ []) ws in
-    let rest : waitingOf (padded n (allRows (A ++ w ∷ ws))) (b + liveWidth) (length ws) ≡ ws =
+waiting-back n A [] B b ea ew e = refl
+waiting-back n A (w ∷ ws) B b ea ew e =
+    let l : (A ++ (w ∷ [])) ++ (ws ++ B) ≡ A ++ w ∷ (ws ++ B) = append-assoc A (w ∷ []) (ws ++ B) in
+    let rest : waitingOf (padded n (allRows (A ++ w ∷ (ws ++ B)))) (b + liveWidth) (length ws) ≡ ws =
     ap (λ (x : List Waiting). waitingOf (padded n (allRows x)) (b + liveWidth) (length ws)) (sym l)
-    ∙ waiting-back n (A ++ (w ∷ [])) ws (b + liveWidth) (all-append Eight A (w ∷ []) ea (ew .0, tt)) (ew .1) (omega (arith, length-append A (w ∷ []))) in
-    λ i. record { number = number-back n A w ws b ea (ew .0) e i; fragment = fragment-back n A w ws b ea (ew .0) e i } ∷ rest i
+    ∙ waiting-back n (A ++ (w ∷ [])) ws B (b + liveWidth) (all-append Eight A (w ∷ []) ea (ew .0, tt)) (ew .1) (omega (arith, length-append A (w ∷ []))) in
+    λ i. record { number = number-back n A w (ws ++ B) b ea (ew .0) e i; fragment = fragment-back n A w (ws ++ B) b ea (ew .0) e i } ∷ rest i
 
 -- Runs
 
-pub length-run : (u : Uncommitted) → Fit u → length (runWords u) ≡ 16
+pub length-run : (u : Uncommitted) → Fit u → length (runWords u) ≡ runWidth
 unfolding runWords
 length-run u h =
     let ns : List ℕ = padded 8 (heldOutcome (u .reply) .numbers) in
@@ -125,20 +120,16 @@ length-run u h =
 
 pub length-runs : (us : List Uncommitted) → All Fit us → length (allRuns us) ≡ runWidth * length us
 unfolding allRuns
-length-runs [] h = omega arith
-length-runs (u ∷ us) h = length-append (runWords u) (allRuns us) ∙ omega (arith, length-run u (h .0), length-runs us (h .1))
+length-runs us h = all-length runWords runWidth Fit length-run us h
 
 pub runs-append : (a b : List Uncommitted) → allRuns (a ++ b) ≡ allRuns a ++ allRuns b
 unfolding allRuns
-runs-append [] b = refl
-runs-append (u ∷ a) b = ap (λ (x : List ℕ). runWords u ++ x) (runs-append a b) ∙ sym (append-assoc (runWords u) (allRuns a) (allRuns b))
+runs-append a b = append-rows runWords a b
 
-pub run-read : (n : ℕ) (P : List Uncommitted) (u : Uncommitted) (Q : List Uncommitted) (c k : ℕ) → All Fit P → Fit u → runWidth * length P ≡ c → k < 16
+pub run-read : (n : ℕ) (P : List Uncommitted) (u : Uncommitted) (Q : List Uncommitted) (c k : ℕ) → All Fit P → Fit u → runWidth * length P ≡ c → k < runWidth
     → getD (padded n (allRuns (P ++ u ∷ Q))) (c + k) 0 ≡ getD (runWords u) k 0
 unfolding allRuns
-run-read n P u Q c k ep eu e h =
-    ap (λ (x : List ℕ). getD (padded n x) (c + k) 0) (runs-append P (u ∷ Q))
-    ∙ block-read n (allRuns P) (runWords u) (allRuns Q) c k (length-runs P ep ∙ e) (subst (λ (x : ℕ). k < x) (sym (length-run u eu)) h)
+run-read n P u Q c k ep eu e h = word-read runWords runWidth Fit length-run n P u Q c k ep eu e h
 
 -- Entries
 
@@ -194,21 +185,18 @@ reply-back NoReply h = absurd (mathlib.Core.Bool.true≢false (sym h))
 
 -- n numbers of a run, read through the row that holds it
 module _ (n : ℕ) (P : List Uncommitted) (u : Uncommitted) (Q : List Uncommitted) (c : ℕ) (ep : All Fit P) (eu : Fit u) (e : runWidth * length P ≡ c) where
-  pub word-back : (k : ℕ) → k < 16 → getD (padded n (allRuns (P ++ u ∷ Q))) (c + k) 0 ≡ getD (runWords u) k 0
-  word-back k h = run-read n P u Q c k ep eu e h
-
   pub outcome-back : isReply (u .reply) ≡ true
       → replyOf (getD (padded n (allRuns (P ++ u ∷ Q))) (c + 2) 0) (record { place = getD (padded n (allRuns (P ++ u ∷ Q))) (c + 4) 0; numbers = numbersFrom (padded n (allRuns (P ++ u ∷ Q))) (c + 6) (getD (padded n (allRuns (P ++ u ∷ Q))) (c + 5) 0) }) ≡ u .reply
   unfolding runWords
   outcome-back h =
       let ns : List ℕ = heldOutcome (u .reply) .numbers in
       let l : List ℕ = padded n (allRuns (P ++ u ∷ Q)) in
-      let w2 : getD l (c + 2) 0 ≡ replyWord (u .reply) = word-back 2 (omega arith) in
-      let w4 : getD l (c + 4) 0 ≡ heldOutcome (u .reply) .place = word-back 4 (omega arith) in
-      let w5 : getD l (c + 5) 0 ≡ length ns = word-back 5 (omega arith) in
+      let w2 : getD l (c + 2) 0 ≡ replyWord (u .reply) = run-read n P u Q c 2 ep eu e (omega arith) in
+      let w4 : getD l (c + 4) 0 ≡ heldOutcome (u .reply) .place = run-read n P u Q c 4 ep eu e (omega arith) in
+      let w5 : getD l (c + 5) 0 ≡ length ns = run-read n P u Q c 5 ep eu e (omega arith) in
       let read : numbersFrom l (c + 6) (getD l (c + 5) 0) ≡ ns =
       ap (numbersFrom l (c + 6)) w5
-      ∙ numbers-same l (runWords u) (c + 6) 6 (length ns) (λ k hk. (let z : c + 6 + k ≡ c + (6 + k) = omega arith in ap (λ (x : ℕ). getD l x 0) z) ∙ word-back (6 + k) (omega arith))
+      ∙ numbers-same l (runWords u) (c + 6) 6 (length ns) (λ k hk. (let z : c + 6 + k ≡ c + (6 + k) = omega arith in ap (λ (x : ℕ). getD l x 0) z) ∙ run-read n P u Q c (6 + k) ep eu e (omega arith))
       ∙ numbers-run u eu in
       (λ i. replyOf (w2 i) (record { place = w4 i; numbers = read i })) ∙ reply-back (u .reply) h
 
@@ -231,17 +219,17 @@ members-back nl nr nu A P (u ∷ us) ws b c d ea el kp ku eb ec ed =
     let w3 : getD runs (c + 3) 0 ≡ length (u .undo) = run-read nr P u us c 3 fp (ku .0 .0) ec (omega arith) in
     let own : entriesOf undo d (getD runs (c + 3) 0) ≡ u .undo =
     ap (entriesOf undo d) w3 ∙ ap (λ (x : List Undo). entriesOf (padded nu (flat x)) d (length (u .undo))) (undo-append P (u ∷ us)) ∙ entries-back nu (undoList P) (u .undo) (undoList us) d ed in
-    let lA : (A ++ (requeued u ∷ [])) ++ liveRows us ws ≡ A ++ liveRows (u ∷ us) ws = append-assoc A (requeued u ∷ []) (liveRows us ws) in
+    let lA : (A ++ (rowOf u ∷ [])) ++ liveRows us ws ≡ A ++ liveRows (u ∷ us) ws = append-assoc A (rowOf u ∷ []) (liveRows us ws) in
     let lP : (P ++ (u ∷ [])) ++ us ≡ P ++ u ∷ us = append-assoc P (u ∷ []) us in
     let d′ : d + 2 * getD runs (c + 3) 0 ≡ 2 * length (undoList (P ++ (u ∷ []))) =
     omega (arith, ed, w3, ap length (undo-append P (u ∷ [])), length-append (undoList P) (u .undo ++ []), length-append (u .undo) []) in
     let rest : uncommittedOf live (b + liveWidth) runs (c + runWidth) undo (d + 2 * getD runs (c + 3) 0) (length us) ≡ us =
     (λ i. uncommittedOf (padded nl (allRows (sym lA i))) (b + liveWidth) (padded nr (allRuns (sym lP i))) (c + runWidth) (padded nu (flat (undoList (sym lP i)))) (d′ i) (length us))
-    ∙ members-back nl nr nu (A ++ (requeued u ∷ [])) (P ++ (u ∷ [])) us ws (b + liveWidth) (c + runWidth) (2 * length (undoList (P ++ (u ∷ [])))) (all-append Eight A (requeued u ∷ []) ea (el .0, tt)) (el .1)
-    (all-append Known P (u ∷ []) kp (ku .0, tt)) (ku .1) (omega (arith, length-append A (requeued u ∷ []))) (omega (arith, length-append P (u ∷ []))) refl in
+    ∙ members-back nl nr nu (A ++ (rowOf u ∷ [])) (P ++ (u ∷ [])) us ws (b + liveWidth) (c + runWidth) (2 * length (undoList (P ++ (u ∷ [])))) (all-append Eight A (rowOf u ∷ []) ea (el .0, tt)) (el .1)
+    (all-append Known P (u ∷ []) kp (ku .0, tt)) (ku .1) (omega (arith, length-append A (rowOf u ∷ []))) (omega (arith, length-append P (u ∷ []))) refl in
     λ i. record {
-      number = number-back nl A (requeued u) (liveRows us ws) b ea (el .0) eb i;
-      first = fragment-back nl A (requeued u) (liveRows us ws) b ea (el .0) eb i;
+      number = number-back nl A (rowOf u) (liveRows us ws) b ea (el .0) eb i;
+      first = fragment-back nl A (rowOf u) (liveRows us ws) b ea (el .0) eb i;
       ran = w0 i;
       state = (ap stateOf w1 ∙ state-back (u .state) (ku .0 .1)) i;
       reply = outcome-back nr P u us c fp (ku .0 .0) ec (ku .0 .2) i;
@@ -268,5 +256,5 @@ view-pack e h el =
       count = e .count;
       largest = e .largest;
       uncommitted = members-back liveLength runsLength undoLength [] [] us ws 0 0 0 tt el tt k refl refl refl i;
-      waiting = waiting-back liveLength (map requeued us) ws (liveWidth * length us) (eights-first (map requeued us) ws el) (eights-rest (map requeued us) ws el) (ap (λ (x : ℕ). liveWidth * x) (length-map us requeued)) i;
+      waiting = (ap (λ (x : List Waiting). waitingOf (padded liveLength (allRows (map rowOf us ++ x))) (liveWidth * length us) (length ws)) (sym (append-nil ws)) ∙ waiting-back liveLength (map rowOf us) ws [] (liveWidth * length us) (eights-first (map rowOf us) ws el) (eights-rest (map rowOf us) ws el) (ap (λ (x : ℕ). liveWidth * x) (length-map us rowOf))) i;
     }

@@ -1,3 +1,6 @@
+pub mod Walks
 pub mod Rows
+pub mod Queues
 pub mod Back
 pub mod Unique
+pub mod Viewed

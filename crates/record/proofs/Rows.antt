@@ -1,14 +1,14 @@
 -- Laws of rows of words: laying, shifting, clearing, and reading back what was laid.
-use Prim.Native.Nat.{ℕ, zero, suc, _+_, _*_, _-_, _≤_, _<_, min}
+use Prim.Native.Nat.{ℕ, zero, suc, _+_, _-_, _≤_, _<_, min}
 use native.Mathlib.Omega.{arith}
 use native.Mathlib.Numerals.{add-one}
 use borrow.Author.Tests.{leb-true, leb-false, ltb-true, ltb-false, eqb-true, eqb-false}
-use mathlib.Core.Path.{_≡_, refl, sym, ap, _∙_, subst}
+use mathlib.Core.Path.{_≡_, refl, sym, ap, _∙_}
 use mathlib.Core.Bool.{Bool, true, false}
 use lib.Dec.{leb, ltb, eqb}
-use mathlib.Core.List.{List, [], _∷_, _++_, append-assoc, append-nil}
-use lib.ListN.{length, getD, set, take, drop, replicate, length-append, length-replicate, length-set, length-take, length-drop, drop-of-length-le, List·getD-eq-default, List·getD-append, getD-replicate}
-use lib.Seq.{sets, sets-eq, length-sets, getD-set-same, getD-set-other, ext-getD, drop-cons, take-at, drop-at, drop-append-add, getD-append-add, getD-at, getD-take, getD-drop, length-take-le, take-all}
+use mathlib.Core.List.{List, [], _∷_, _++_, append-assoc, map}
+use lib.ListN.{length, getD, set, take, drop, replicate, length-append, length-replicate, length-set, length-take, List·getD-eq-default, List·getD-append, getD-replicate}
+use lib.Seq.{sets, sets-eq, length-sets, getD-set-same, getD-set-other, ext-getD, take-at, drop-append-add, getD-append-add, getD-take}
 use Rattle.model.specs.declared.Op.{Op}
 use Rattle.model.specs.declared.Fragment.{Fragment}
 use Rattle.operations.specs.Laid.{padded}
@@ -16,18 +16,17 @@ use Rattle.operations.proofs.Turns.{noOp, length-padded}
 use Rattle.record.specs.Words.{opsWords, rowWords}
 use Rattle.record.specs.View.{opAt, fragmentAt, numbersFrom, zeros}
 use Rattle.record.specs.Widths.{liveWidth}
+use Rattle.record.specs.Walk.{places}
+use Rattle.record.proofs.Walks.{read-length, read-add, read-at, read-whole, walk-on, walk-end}
 
 -- one turn of laying, from a place of the words on; its start and its end
 pub lay-turn : (row row′ words all : List ℕ) (at from n i w : ℕ) → i < n → w ≡ getD words (from + i) 0 → row′ ≡ set row (at + i) w → sets row (at + i) (numbersFrom words (from + i) (n - i)) ≡ all
     → sets row′ (at + (i + 1)) (numbersFrom words (from + (i + 1)) (n - (i + 1))) ≡ all
 unfolding numbersFrom
 lay-turn row row′ words all at from n i w h ew er inv =
-    let e : n - i ≡ suc (n - (i + 1)) = omega arith in
     let p : at + (i + 1) ≡ suc (at + i) = omega arith in
-    let q : from + (i + 1) ≡ from + i + 1 = omega arith in
-    ap (λ (x : List ℕ). sets x (at + (i + 1)) (numbersFrom words (from + (i + 1)) (n - (i + 1)))) (er ∙ ap (set row (at + i)) ew)
-    ∙ (λ j. sets (set row (at + i) (getD words (from + i) 0)) (p j) (numbersFrom words (q j) (n - (i + 1))))
-    ∙ ap (λ (x : ℕ). sets row (at + i) (numbersFrom words (from + i) x)) (sym e) ∙ inv
+    (λ j. sets ((er ∙ ap (set row (at + i)) ew) j) (p j) (numbersFrom words (from + (i + 1)) (n - (i + 1))))
+    ∙ walk-on (λ (x : ℕ). x + 1) (λ (x : List ℕ). sets row (at + i) (map (λ (q : ℕ). getD words q 0) x)) (from + i) (n - i) all inv (from + (i + 1)) (n - (i + 1)) (omega arith) (omega arith)
 
 pub lay-start : (row words : List ℕ) (at from n : ℕ) → sets row (at + 0) (numbersFrom words (from + 0) (n - 0)) ≡ sets row at (numbersFrom words from n)
 lay-start row words at from n =
@@ -38,9 +37,7 @@ lay-start row words at from n =
 
 pub lay-end : (row words all : List ℕ) (at from n i : ℕ) → n ≤ i → sets row (at + i) (numbersFrom words (from + i) (n - i)) ≡ all → row ≡ all
 unfolding numbersFrom
-lay-end row words all at from n i h inv =
-    let e : n - i ≡ 0 = omega arith in
-    sym (ap (λ (x : ℕ). sets row (at + i) (numbersFrom words (from + i) x)) e) ∙ inv
+lay-end row words all at from n i h inv = walk-end (λ (x : ℕ). x + 1) (λ (x : List ℕ). sets row (at + i) (map (λ (q : ℕ). getD words q 0) x)) (from + i) (n - i) all inv (omega arith)
 
 -- reading what a row holds
 
@@ -59,8 +56,11 @@ getD-padded n (a ∷ l) (suc x) =
 
 pub length-numbers : (l : List ℕ) (b n : ℕ) → length (numbersFrom l b n) ≡ n
 unfolding numbersFrom
-length-numbers l b zero = refl
-length-numbers l b (suc n) = ap suc (length-numbers l (b + 1) n)
+length-numbers l b n = read-length (λ (p : ℕ). p + 1) (λ (p : ℕ). getD l p 0) b n
+
+pub numbers-add : (l : List ℕ) (b m n : ℕ) → numbersFrom l b (m + n) ≡ numbersFrom l b m ++ numbersFrom l (b + m) n
+unfolding numbersFrom
+numbers-add l b m n = read-add (λ (p : ℕ). getD l p 0) 1 b m n (b + m) (omega arith)
 
 -- rows that agree from b and c on
 pub numbers-same : (l m : List ℕ) (b c n : ℕ) → ((k : ℕ) → k < n → getD l (b + k) 0 ≡ getD m (c + k) 0) → numbersFrom l b n ≡ numbersFrom m c n
@@ -77,15 +77,7 @@ numbers-same l m b c (suc n) h =
 -- the whole of a list
 pub numbers-whole : (l : List ℕ) → numbersFrom l 0 (length l) ≡ l
 unfolding numbersFrom
-numbers-whole l = go [] l 0 refl
-  where
-    go : (p q : List ℕ) (b : ℕ) → length p ≡ b → numbersFrom (p ++ q) b (length q) ≡ q
-    go p [] b e = refl
-    go p (x ∷ q) b e =
-        let here : getD (p ++ x ∷ q) b 0 ≡ x = getD-at p x q 0 b e in
-        let l : (p ++ (x ∷ [])) ++ q ≡ p ++ x ∷ q = append-assoc p (x ∷ []) q in
-        let m : length (p ++ (x ∷ [])) ≡ b + 1 = length-append p (x ∷ []) ∙ ap (λ (y : ℕ). y + 1) e in
-        λ i. here i ∷ (ap (λ (y : List ℕ). numbersFrom y (b + 1) (length q)) (sym l) ∙ go (p ++ (x ∷ [])) q (b + 1) m) i
+numbers-whole l = read-whole 0 l
 
 -- the list at the start of a padded row
 pub numbers-padded : (n : ℕ) (l : List ℕ) (m : ℕ) → length l ≡ m → numbersFrom (padded n l) 0 m ≡ l
@@ -121,10 +113,7 @@ lay-padded n l w at e h =
 
 pub numbers-snoc : (l : List ℕ) (b n : ℕ) → numbersFrom l b (suc n) ≡ numbersFrom l b n ++ (getD l (b + n) 0 ∷ [])
 unfolding numbersFrom
-numbers-snoc l b zero = let z : b ≡ b + 0 = omega arith in ap {B = List ℕ} (λ (x : ℕ). getD l x 0 ∷ []) z
-numbers-snoc l b (suc n) =
-    let z : b + 1 + n ≡ b + suc n = omega arith in
-    ap {B = List ℕ} (λ (x : List ℕ). getD l b 0 ∷ x) (numbers-snoc l (b + 1) n ∙ ap (λ (x : ℕ). numbersFrom l (b + 1) n ++ (getD l x 0 ∷ [])) z)
+numbers-snoc l b n = ap (numbersFrom l b) (sym (add-one n)) ∙ numbers-add l b n 1
 
 sets-snoc : (l : List ℕ) (i : ℕ) (ws : List ℕ) (w : ℕ) → sets l i (ws ++ (w ∷ [])) ≡ set (sets l i ws) (i + length ws) w
 sets-snoc l i [] w = let z : i ≡ i + 0 = omega arith in ap (λ (x : ℕ). set l x w) z
@@ -140,9 +129,7 @@ getD-sets-in l ws x h k =
 
 pub getD-numbers : (l : List ℕ) (b n x : ℕ) → x < n → getD (numbersFrom l b n) x 0 ≡ getD l (b + x) 0
 unfolding numbersFrom
-getD-numbers l b zero x h = absurd (omega arith)
-getD-numbers l b (suc n) zero h = let z : b ≡ b + 0 = omega arith in ap (λ (y : ℕ). getD l y 0) z
-getD-numbers l b (suc n) (suc x) h = let z : b + 1 + x ≡ b + suc x = omega arith in getD-numbers l (b + 1) n x (omega arith) ∙ ap (λ (y : ℕ). getD l y 0) z
+getD-numbers l b n x h = read-at (λ (p : ℕ). getD l p 0) 1 0 b n x (b + x) h (omega arith)
 
 -- one turn of shifting: place k + i has not been written yet
 pub shift-turn : (row₀ row row′ : List ℕ) (k i w : ℕ) → row ≡ sets row₀ 0 (numbersFrom row₀ k i) → w ≡ getD row (k + i) 0 → row′ ≡ set row i w → row′ ≡ sets row₀ 0 (numbersFrom row₀ k (i + 1))
@@ -168,7 +155,7 @@ shift-none row (suc m) =
     shift-turn row row row 0 m (getD row m 0) (shift-none row m) (let z : m ≡ 0 + m = omega arith in ap (λ (x : ℕ). getD row x 0) z) (sym (set-own row m))
     ∙ ap (λ (x : ℕ). sets row 0 (numbersFrom row 0 x)) (add-one m)
 
-getD-sets-before : (l : List ℕ) (i : ℕ) (ws : List ℕ) (x : ℕ) → x < i → getD (sets l i ws) x 0 ≡ getD l x 0
+pub getD-sets-before : (l : List ℕ) (i : ℕ) (ws : List ℕ) (x : ℕ) → x < i → getD (sets l i ws) x 0 ≡ getD l x 0
 getD-sets-before l i [] x h = refl
 getD-sets-before l i (a ∷ ws) x h = getD-sets-before (set l i a) (suc i) ws x (omega arith) ∙ getD-set-other l i x a 0 (λ e. omega arith)
 
@@ -204,26 +191,33 @@ copied-out row at m n e =
         let z : getD (zeros m) x 0 ≡ 0 = getD-replicate m x 0 0 h in
         getD-sets-after (zeros m) 0 (numbersFrom row at n) x (omega (arith, length-numbers row at n)) ∙ z ∙ sym (getD-numbers row at m x h ∙ List·getD-eq-default row 0 {n = at + x} (omega arith))
 
+-- l from b on and m from c on agree on a transaction's words
+abbrev pub Agree : List ℕ → ℕ → List ℕ → ℕ → Type 0
+Agree l b m c = (k : ℕ) → k < liveWidth → getD l (b + k) 0 ≡ getD m (c + k) 0
+
+module _ (l : List ℕ) (b : ℕ) (m : List ℕ) (c : ℕ) (a : Agree l b m c) where
+  word-same : (x y k : ℕ) → x ≡ b + k → y ≡ c + k → k < liveWidth → getD l x 0 ≡ getD m y 0
+  word-same x y k ex ey h = ap (λ (z : ℕ). getD l z 0) ex ∙ a k h ∙ ap (λ (z : ℕ). getD m z 0) (sym ey)
+
+  op-same : (o : ℕ) → o + 3 ≤ liveWidth → opAt l (b + o) ≡ opAt m (c + o)
+  op-same o h = λ i. record {
+    code = word-same (b + o) (c + o) o refl refl (omega arith) i;
+    cell = word-same (b + o + 1) (c + o + 1) (o + 1) (omega arith) (omega arith) (omega arith) i;
+    amount = word-same (b + o + 2) (c + o + 2) (o + 2) (omega arith) (omega arith) (omega arith) i;
+  }
+
+  pub fragment-same : fragmentAt l b ≡ fragmentAt m c
+  unfolding fragmentAt
+  fragment-same = λ i. record {
+    flags = a 1 (omega arith) i;
+    coordinator = a 2 (omega arith) i;
+    count = a 3 (omega arith) i;
+    row = op-same 4 (omega arith) i ∷ op-same 7 (omega arith) i ∷ op-same 10 (omega arith) i ∷ op-same 13 (omega arith) i ∷ op-same 16 (omega arith) i ∷ op-same 19 (omega arith) i ∷ op-same 22 (omega arith) i ∷ op-same 25 (omega arith) i ∷ [];
+  }
+
 pub fragment-words : (row : List ℕ) (at : ℕ) → fragmentAt (numbersFrom row at liveWidth) 0 ≡ fragmentAt row at
-unfolding fragmentAt
-fragment-words row at = λ j. record {
-  flags = w 1 (omega arith) j;
-  coordinator = w 2 (omega arith) j;
-  count = w 3 (omega arith) j;
-  row = o 4 (omega arith) j ∷ o 7 (omega arith) j ∷ o 10 (omega arith) j ∷ o 13 (omega arith) j ∷ o 16 (omega arith) j ∷ o 19 (omega arith) j ∷ o 22 (omega arith) j ∷ o 25 (omega arith) j ∷ [];
-}
-  where
-    w : (x : ℕ) → x < liveWidth → getD (numbersFrom row at liveWidth) (0 + x) 0 ≡ getD row (at + x) 0
-    w x h = let z : 0 + x ≡ x = omega arith in ap (λ (y : ℕ). getD (numbersFrom row at liveWidth) y 0) z ∙ getD-numbers row at liveWidth x h
-
-    at-part : (x k : ℕ) → x + k < liveWidth → getD (numbersFrom row at liveWidth) (0 + x + k) 0 ≡ getD row (at + x + k) 0
-    at-part x k h =
-        let z : 0 + x + k ≡ x + k = omega arith in
-        let y : at + (x + k) ≡ at + x + k = omega arith in
-        ap (λ (q : ℕ). getD (numbersFrom row at liveWidth) q 0) z ∙ getD-numbers row at liveWidth (x + k) h ∙ ap (λ (q : ℕ). getD row q 0) y
-
-    o : (x : ℕ) → x < 26 → opAt (numbersFrom row at liveWidth) (0 + x) ≡ opAt row (at + x)
-    o x h = λ j. record { code = w x (omega arith) j; cell = at-part x 1 (omega arith) j; amount = at-part x 2 (omega arith) j }
+fragment-words row at =
+    fragment-same (numbersFrom row at liveWidth) 0 row at (λ k h. (let z : 0 + k ≡ k = omega arith in ap (λ (x : ℕ). getD (numbersFrom row at liveWidth) x 0) z) ∙ getD-numbers row at liveWidth k h)
 
 -- one turn of clearing a stretch
 zeros-snoc : (n : ℕ) → zeros (suc n) ≡ zeros n ++ (0 ∷ [])
@@ -313,22 +307,13 @@ cleared row n start e =
         let z : getD (zeros (length row - start)) (x - start) 0 ≡ 0 = getD-replicate (length row - start) (x - start) 0 0 (omega arith) in
         getD-sets-at row start (zeros (length row - start)) x (omega arith) (omega (arith, lz)) hx ∙ z ∙ sym (List·getD-eq-default (take n row) 0 {n = x} (omega (arith, length-take n row)))
 
--- Rows of operations
+-- Eight places, one by one
 
-pub eight : (o : List Op) → length o ≡ 8 → getD o 0 noOp ∷ getD o 1 noOp ∷ getD o 2 noOp ∷ getD o 3 noOp ∷ getD o 4 noOp ∷ getD o 5 noOp ∷ getD o 6 noOp ∷ getD o 7 noOp ∷ [] ≡ o
-eight o h =
-    let e : drop 8 o ≡ [] = drop-of-length-le o {i = 8} (omega arith) in
-    sym (drop-cons o 0 noOp (omega arith) ∙ ap (λ (v : List Op). getD o 0 noOp ∷ v) (drop-cons o 1 noOp (omega arith)
-    ∙ ap (λ (v : List Op). getD o 1 noOp ∷ v) (drop-cons o 2 noOp (omega arith)
-    ∙ ap (λ (v : List Op). getD o 2 noOp ∷ v) (drop-cons o 3 noOp (omega arith)
-    ∙ ap (λ (v : List Op). getD o 3 noOp ∷ v) (drop-cons o 4 noOp (omega arith)
-    ∙ ap (λ (v : List Op). getD o 4 noOp ∷ v) (drop-cons o 5 noOp (omega arith)
-    ∙ ap (λ (v : List Op). getD o 5 noOp ∷ v) (drop-cons o 6 noOp (omega arith)
-    ∙ ap (λ (v : List Op). getD o 6 noOp ∷ v) (drop-cons o 7 noOp (omega arith)
-    ∙ ap (λ (v : List Op). getD o 7 noOp ∷ v) e))))))))
+pub eight : {A : Type 0} (d : A) (l : List A) → length l ≡ 8 → getD l 0 d ∷ getD l 1 d ∷ getD l 2 d ∷ getD l 3 d ∷ getD l 4 d ∷ getD l 5 d ∷ getD l 6 d ∷ getD l 7 d ∷ [] ≡ l
+eight d l h = ap (λ (n : ℕ). map (λ (p : ℕ). getD l p d) (places 0 1 n)) (sym h) ∙ read-whole d l
 
 -- the words of a row whose eight operations are taken one by one
 pub row-words : (n : ℕ) (f : Fragment) → length (f .row) ≡ 8
     → n ∷ f .flags ∷ f .coordinator ∷ f .count ∷ opsWords (getD (f .row) 0 noOp ∷ getD (f .row) 1 noOp ∷ getD (f .row) 2 noOp ∷ getD (f .row) 3 noOp ∷ getD (f .row) 4 noOp ∷ getD (f .row) 5 noOp ∷ getD (f .row) 6 noOp ∷ getD (f .row) 7 noOp ∷ []) ≡ rowWords n f
 unfolding rowWords
-row-words n f h = ap {B = List ℕ} (λ (x : List Op). n ∷ f .flags ∷ f .coordinator ∷ f .count ∷ opsWords x) (eight (f .row) h)
+row-words n f h = ap {B = List ℕ} (λ (x : List Op). n ∷ f .flags ∷ f .coordinator ∷ f .count ∷ opsWords x) (eight noOp (f .row) h)

@@ -11,6 +11,16 @@ use Rattle.record.proofs.shift.Kinds as shift-kinds
 use Rattle.record.proofs.shift.Reads as shift
 use Rattle.record.proofs.clear.Kinds as clear-kinds
 use Rattle.record.proofs.clear.Reads as clear
+use Rattle.record.proofs.Counts.accepts.Kinds as accepts-kinds
+use Rattle.record.proofs.Counts.accepts.Reads as accepts
+use Rattle.record.proofs.Counts.waits.Kinds as waits-kinds
+use Rattle.record.proofs.Counts.waits.Reads as waits
+use Rattle.record.proofs.Counts.joins.Kinds as joins-kinds
+use Rattle.record.proofs.Counts.joins.Reads as joins
+use Rattle.record.proofs.Counts.leaves.Kinds as leaves-kinds
+use Rattle.record.proofs.Counts.leaves.Reads as leaves
+use Rattle.record.proofs.Counts.requeues.Kinds as requeues-kinds
+use Rattle.record.proofs.Counts.requeues.Reads as requeues
 
 pub fragment-at-unique : Unique fragment-at-kinds.ps fragment-at-kinds.r fragment-at.Learnt
 fragment-at-unique κs a z z′ ws ws′ p q = (cc, refl)
@@ -32,3 +42,18 @@ pub clear-unique : Unique clear-kinds.ps clear-kinds.r clear.Learnt
 clear-unique κs a z z′ ws ws′ p q =
     let b : ws .0 ≡ ws′ .0 = cc in
     (refl, λ j. (b j, ws .1))
+
+pub accepts-unique : Unique accepts-kinds.ps accepts-kinds.r accepts.Learnt
+accepts-unique κs a z z′ ws ws′ p q = (cc, refl)
+
+pub waits-unique : Unique waits-kinds.ps waits-kinds.r waits.Learnt
+waits-unique κs a z z′ ws ws′ p q = (cc, refl)
+
+pub joins-unique : Unique joins-kinds.ps joins-kinds.r joins.Learnt
+joins-unique κs a z z′ ws ws′ p q = (cc, refl)
+
+pub leaves-unique : Unique leaves-kinds.ps leaves-kinds.r leaves.Learnt
+leaves-unique κs a z z′ ws ws′ p q = (cc, refl)
+
+pub requeues-unique : Unique requeues-kinds.ps requeues-kinds.r requeues.Learnt
+requeues-unique κs a z z′ ws ws′ p q = (cc, refl)

@@ -1,6 +1,6 @@
 -- What a record of any words means: `view` reads it as lists. A read past a row's end gives 0.
-use Prim.Native.Nat.{ℕ, zero, suc, _+_, _*_}
-use mathlib.Core.List.{List, [], _∷_}
+use Prim.Native.Nat.{ℕ, _+_, _*_}
+use mathlib.Core.List.{List, [], _∷_, map, foldr}
 use lib.Dec.{eqb}
 use lib.ListN.{getD, replicate}
 use Rattle.model.specs.Operations.{Outcome, pick}
@@ -8,8 +8,10 @@ use Rattle.model.specs.Transactions.{State, Running, Finished, Failed, NoState,
 use Rattle.model.specs.declared.Op.{Op}
 use Rattle.model.specs.declared.Fragment.{Fragment}
 use Rattle.operations.specs.Laid.{entriesOf}
+use Rattle.record.specs.declared.Counts.{Counts}
 use Rattle.record.specs.declared.Record.{Record}
 use Rattle.record.specs.Widths.{liveWidth, runWidth, entryWidth}
+use Rattle.record.specs.Walk.{walk, places}
 
 -- the operation whose words start at b
 abbrev pub opAt : List ℕ → ℕ → Op
@@ -24,15 +26,17 @@ fragmentAt l b = record {
   row = opAt l (b + 4) ∷ opAt l (b + 7) ∷ opAt l (b + 10) ∷ opAt l (b + 13) ∷ opAt l (b + 16) ∷ opAt l (b + 19) ∷ opAt l (b + 22) ∷ opAt l (b + 25) ∷ [];
 }
 
+-- what stands in the row that starts at b
+abbrev pub rowAt : List ℕ → ℕ → Waiting
+rowAt l b = record { number = getD l b 0; fragment = fragmentAt l b }
+
 -- n waiting ones, the first of which starts at b
 unfoldable pub waitingOf : List ℕ → ℕ → ℕ → List Waiting
-waitingOf l b zero = []
-waitingOf l b (suc n) = record { number = getD l b 0; fragment = fragmentAt l b } ∷ waitingOf l (b + liveWidth) n
+waitingOf l b n = map (rowAt l) (places b liveWidth n)
 
 -- n numbers from b on
 unfoldable pub numbersFrom : List ℕ → ℕ → ℕ → List ℕ
-numbersFrom l b zero = []
-numbersFrom l b (suc n) = getD l b 0 ∷ numbersFrom l (b + 1) n
+numbersFrom l b n = map (λ (p : ℕ). getD l p 0) (places b 1 n)
 
 -- n zeros
 abbrev pub zeros : ℕ → List ℕ
@@ -56,10 +60,23 @@ memberAt live b runs c undo d = record {
   undo = entriesOf undo d (getD runs (c + 3) 0);
 }
 
--- n uncommitted ones, the first of which is so
+-- where an uncommitted one stands: the places of its row, its run and its entries
+pub record Spot : Type 0 where
+  pub row : ℕ
+  pub run : ℕ
+  pub entries : ℕ
+
+-- where the next one stands, behind as many entries as the word of its run says
+abbrev pub nextSpot : List ℕ → Spot → Spot
+nextSpot runs s = record { row = s .row + liveWidth; run = s .run + runWidth; entries = s .entries + entryWidth * getD runs (s .run + 3) 0 }
+
+-- n uncommitted ones, the first of which is the one at b, c and d
 unfoldable pub uncommittedOf : List ℕ → ℕ → List ℕ → ℕ → List ℕ → ℕ → ℕ → List Uncommitted
-uncommittedOf live b runs c undo d zero = []
-uncommittedOf live b runs c undo d (suc n) = memberAt live b runs c undo d ∷ uncommittedOf live (b + liveWidth) runs (c + runWidth) undo (d + entryWidth * getD runs (c + 3) 0) n
+uncommittedOf live b runs c undo d n = map (λ (s : Spot). memberAt live (s .row) runs (s .run) undo (s .entries)) (walk (nextSpot runs) (record { row = b; run = c; entries = d }) n)
+
+-- how many undo entries n runs own together, the first of which starts at c
+unfoldable pub entriesFrom : List ℕ → ℕ → ℕ → ℕ
+entriesFrom runs c n = foldr (λ (p m : ℕ). getD runs (p + 3) 0 + m) 0 (places c runWidth n)
 
 -- what the words of a record mean
 unfoldable pub viewOf : ℕ → ℕ → ℕ → ℕ → List ℕ → List ℕ → List ℕ → Engine
@@ -70,5 +87,9 @@ viewOf count largest uncommitted waiting live runs undo = record {
   waiting = waitingOf live (liveWidth * uncommitted) waiting;
 }
 
+-- the same of a record's counts beside its rows, and of a record whole
+abbrev pub viewBy : Counts → List ℕ → List ℕ → List ℕ → Engine
+viewBy c live runs undo = viewOf (c .cells) (c .largest) (c .uncommitted) (c .waiting) live runs undo
+
 abbrev pub view : Record → Engine
-view r = viewOf (r .count) (r .largest) (r .uncommitted) (r .waiting) (r .live) (r .runs) (r .undo)
+view r = viewBy (r .counts) (r .live) (r .runs) (r .undo)

@@ -1,6 +1,15 @@
--- The layout's widths, each under one name: the words of a live transaction, of a run and of an undo entry, and of the record's three rows.
+-- The layout's widths, each under one name: the words of an operation, of a live transaction, of a run and of an undo entry, and of the record's
+-- three rows.
 use Prim.Native.Nat.{ℕ, _*_}
-use Rattle.model.specs.Limits.{mostLive, depth, mostEntries}
+use Rattle.model.specs.Limits.{mostOperations, mostLive, depth, mostEntries}
+
+-- code, cell, amount
+abbrev pub opWidth : ℕ
+opWidth = 3
+
+-- and those of eight operations
+abbrev pub opsWidth : ℕ
+opsWidth = opWidth * mostOperations
 
 -- number, flags, coordinator, count, eight times code, cell, amount
 abbrev pub liveWidth : ℕ

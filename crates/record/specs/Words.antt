@@ -4,7 +4,6 @@ use mathlib.Core.List.{List, [], _∷_, _++_, map}
 use lib.ListN.{length}
 use Rattle.model.specs.Operations.{Outcome}
 use Rattle.model.specs.Transactions.{State, Running, Finished, Failed, NoState, Reply, Held, Sent, NoReply, Uncommitted, Waiting, Engine, undoList}
-use Rattle.model.specs.Steps.{requeued}
 use Rattle.model.specs.declared.Op.{Op}
 use Rattle.model.specs.declared.Fragment.{Fragment}
 use Rattle.operations.specs.Laid.{padded, flat}
@@ -20,9 +19,13 @@ opsWords (o ∷ os) = o .code ∷ o .cell ∷ o .amount ∷ opsWords os
 unfoldable pub rowWords : ℕ → Fragment → List ℕ
 rowWords n f = n ∷ f .flags ∷ f .coordinator ∷ f .count ∷ opsWords (f .row)
 
+-- the words of all of a list, one row behind the other
+abbrev pub rowsOf : {A : Type 0} → (A → List ℕ) → List A → List ℕ
+rowsOf f [] = []
+rowsOf f (a ∷ l) = f a ++ rowsOf f l
+
 unfoldable pub allRows : List Waiting → List ℕ
-allRows [] = []
-allRows (w ∷ ws) = rowWords (w .number) (w .fragment) ++ allRows ws
+allRows ws = rowsOf (λ (w : Waiting). rowWords (w .number) (w .fragment)) ws
 
 -- the numbers that stand for a state and a reply
 abbrev pub stateWord : State → ℕ
@@ -51,20 +54,20 @@ unfoldable pub runWords : Uncommitted → List ℕ
 runWords u = u .ran ∷ stateWord (u .state) ∷ replyWord (u .reply) ∷ length (u .undo) ∷ outcomeWords (heldOutcome (u .reply)) ++ (0 ∷ 0 ∷ [])
 
 unfoldable pub allRuns : List Uncommitted → List ℕ
-allRuns [] = []
-allRuns (u ∷ us) = runWords u ++ allRuns us
+allRuns us = rowsOf runWords us
 
--- the live ones in number order: uncommitted, then waiting
+-- what stands in an uncommitted one's row: its number and its first fragment
+abbrev pub rowOf : Uncommitted → Waiting
+rowOf u = record { number = u .number; fragment = u .first }
+
+-- the live ones in number order, as they stand in rows: uncommitted, then waiting
 abbrev pub liveRows : List Uncommitted → List Waiting → List Waiting
-liveRows us ws = map requeued us ++ ws
+liveRows us ws = map rowOf us ++ ws
 
 -- a record that means e, every unused place zero
 unfoldable pub pack : Engine → Record
 pack e = record {
-  count = e .count;
-  largest = e .largest;
-  uncommitted = length (e .uncommitted);
-  waiting = length (e .waiting);
+  counts = record { cells = e .count; largest = e .largest; uncommitted = length (e .uncommitted); waiting = length (e .waiting) };
   live = padded liveLength (allRows (liveRows (e .uncommitted) (e .waiting)));
   runs = padded runsLength (allRuns (e .uncommitted));
   undo = padded undoLength (flat (undoList (e .uncommitted)));

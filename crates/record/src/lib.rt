@@ -7,6 +7,7 @@ ghost use lib.Seq.{sets};
 ghost use Rattle.record.specs.Words.{rowWords};
 ghost use Rattle.record.specs.View.{opAt, fragmentAt, numbersFrom, zeros};
 ghost use Rattle.operations.specs.Laid.{padded};
+ghost use Rattle.record.specs.Ends.{capped, endsAt, largestAt, largestBy};
 use model::Fragment;
 use model::Op;
 
@@ -18,6 +19,11 @@ pub const RUN_WORDS: usize = 16;
 
 pub const LIVE_WIDTH: u32 = 28;
 
+// where the operations of a live transaction's row begin and end
+pub const OPS_START: usize = 4;
+
+pub const OPS_END: usize = 28;
+
 pub const RUN_WIDTH: u32 = 16;
 
 pub const ENTRY_WIDTH: u32 = 2;
@@ -28,14 +34,113 @@ pub const RUNS_LENGTH: usize = 256;
 
 pub const UNDO_LENGTH: usize = 368;
 
-// "cell count, largest number accepted, uncommitted queue (at most 16), waiting queue, undo list": the live transactions stand in one row in
-// number order, the uncommitted ones first; beside each of those a run; the undo entries of all of them in queue order, oldest first. Any words are a record: which of them are sound is asked by each call.
+// The record's counts, by value: "cell count, largest number accepted", and how many of the live ones are uncommitted and waiting.
 #[repr(C)]
-pub struct Record {
-    pub count: u32,
+pub struct Counts {
+    pub cells: u32,
     pub largest: u32,
     pub uncommitted: u32,
     pub waiting: u32,
+}
+
+// A sum, at most TOP.
+pub(crate) fn sum(a: u32, b: u32) -> u32
+    ensures { λ r. ⌜ r ≡ capped (a + b) ⌝ }
+{
+    if b <= model::TOP - a {
+        a + b
+    } else {
+        model::TOP
+    }
+}
+
+// One less, 0 where there is none.
+pub(crate) fn one_less(a: u32) -> u32
+    ensures { λ r. ⌜ r ≡ a - 1 ⌝ }
+{
+    if 0 < a { a - 1 } else { 0 }
+}
+
+// The largest number accepted, after an accepted event.
+pub(crate) fn largest_after(kind: u32, number: u32, largest: u32) -> u32
+    ensures { λ r. ⌜ r ≡ largestBy kind number largest ⌝ }
+{
+    if kind == 1 {
+        if largest < number { number } else { largest }
+    } else {
+        largest
+    }
+}
+
+// How the queues' ends move. The live ones stand in one row in number order, so that no row moves with them.
+impl Counts {
+    // an event is accepted: a fragment with a new number is the largest accepted then
+    pub fn accepts(self, kind: u32, number: u32) -> Counts
+        ensures { λ d. ⌜ d ≡ largestAt self (largestBy kind number (self .largest)) ⌝ }
+    {
+        Counts {
+            cells: self.cells,
+            largest: largest_after(kind, number, self.largest),
+            uncommitted: self.uncommitted,
+            waiting: self.waiting,
+        }
+    }
+
+    // "join the end of the waiting queue"
+    pub fn waits(self) -> Counts
+        ensures { λ d. ⌜ d ≡ endsAt self (self .uncommitted) (capped (self .waiting + 1)) ⌝ }
+    {
+        Counts {
+            cells: self.cells,
+            largest: self.largest,
+            uncommitted: self.uncommitted,
+            waiting: sum(self.waiting, 1),
+        }
+    }
+
+    // "take the first waiting one": it is the last uncommitted one then
+    pub fn joins(self) -> Counts
+        ensures { λ d. ⌜ d ≡ endsAt self (capped (self .uncommitted + 1)) (self .waiting - 1) ⌝ }
+    {
+        Counts {
+            cells: self.cells,
+            largest: self.largest,
+            uncommitted: sum(self.uncommitted, 1),
+            waiting: one_less(self.waiting),
+        }
+    }
+
+    // the first uncommitted one "settles", or "is gone"
+    pub fn leaves(self) -> Counts
+        ensures { λ d. ⌜ d ≡ endsAt self (self .uncommitted - 1) (self .waiting) ⌝ }
+    {
+        Counts {
+            cells: self.cells,
+            largest: self.largest,
+            uncommitted: one_less(self.uncommitted),
+            waiting: self.waiting,
+        }
+    }
+
+    // "return to the head of the waiting queue in their old order": the boundary between the queues moves back
+    pub fn requeues(self) -> Counts
+        ensures { λ d. ⌜ d ≡ endsAt self 0 (capped (self .uncommitted + self .waiting)) ⌝ }
+    {
+        Counts {
+            cells: self.cells,
+            largest: self.largest,
+            uncommitted: 0,
+            waiting: sum(self.uncommitted, self.waiting),
+        }
+    }
+}
+
+// "cell count, largest number accepted, uncommitted queue (at most 16), waiting queue, undo list": the live transactions stand in one row in
+// number order, the uncommitted ones first; beside each of those a run; the undo entries of all of them in queue order, oldest first. Any words are a
+// record: which of them are sound is asked by each call.
+#[repr(C)]
+pub struct Record {
+    pub counts: Counts,
     pub live: [u32; LIVE_LENGTH],
     pub runs: [u32; RUNS_LENGTH],
     pub undo: [u32; UNDO_LENGTH],

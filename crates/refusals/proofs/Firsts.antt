@@ -1,9 +1,9 @@
 -- Laws of the first row that applies, of a walk over live rows, and of a state's word.
-use Prim.Native.Nat.{ℕ, suc, _+_, _*_, _-_, _≤_, _<_}
+use Prim.Native.Nat.{ℕ, _+_, _*_, _-_, _≤_, _<_}
 use native.Mathlib.Omega.{arith}
 use mathlib.Core.Path.{_≡_, refl, sym, ap, _∙_, subst}
 use mathlib.Core.Bool.{Bool, true, false, not, _&&_, _||_}
-use mathlib.Core.List.{List, [], _∷_, _++_}
+use mathlib.Core.List.{List, [], _∷_, _++_, map}
 use lib.Dec.{eqb}
 use lib.ListN.{getD}
 use borrow.Author.Tests.{eqb-true, eq-eqb, ne-eqb}
@@ -11,6 +11,7 @@ use Rattle.model.specs.Operations.{pick}
 use Rattle.model.specs.Transactions.{Running, Finished, Failed, NoState, finished, failed}
 use Rattle.model.specs.Refusals.{firstOf, isIn}
 use Rattle.record.specs.View.{stateOf}
+use Rattle.record.proofs.Walks.{walk-on, walk-end}
 use Rattle.refusals.specs.Rest.{rowNumbers}
 use Rattle.record.specs.Widths.{liveWidth}
 
@@ -38,12 +39,12 @@ first-hit (r ∷ rs) ys h = go (first-hit rs ys) (r .1) h
 
 -- the walk: what is left from row i on is the whole
 module _ (l : List ℕ) (n k i : ℕ) (whole : Bool) (inv : isIn k (rowNumbers l (liveWidth * i) (n - i)) ≡ whole) where
+  abbrev found : List ℕ → Bool
+  found ps = isIn k (map (λ (p : ℕ). getD l p 0) ps)
+
   live-step : i < n → (eqb (getD l (liveWidth * i) 0) k || isIn k (rowNumbers l (liveWidth * (i + 1)) (n - (i + 1)))) ≡ whole
   unfolding rowNumbers
-  live-step h =
-      let e : n - i ≡ suc (n - (i + 1)) = omega arith in
-      let p : liveWidth * i + liveWidth ≡ liveWidth * (i + 1) = omega arith in
-      ap (λ (x : ℕ). eqb (getD l (liveWidth * i) 0) k || isIn k (rowNumbers l x (n - (i + 1)))) (sym p) ∙ ap (λ (x : ℕ). isIn k (rowNumbers l (liveWidth * i) x)) (sym e) ∙ inv
+  live-step h = walk-on (λ (p : ℕ). p + liveWidth) found (liveWidth * i) (n - i) whole inv (liveWidth * (i + 1)) (n - (i + 1)) (omega arith) (omega arith)
 
   module _ (h : i < n) (m : ℕ) (em : m ≡ getD l (liveWidth * i) 0) where
     pub live-on : (m ≡ k → ⊥) → isIn k (rowNumbers l (liveWidth * (i + 1)) (n - (i + 1))) ≡ whole
@@ -54,7 +55,7 @@ module _ (l : List ℕ) (n k i : ℕ) (whole : Bool) (inv : isIn k (rowNumbers l
 
   pub live-end : n ≤ i → false ≡ whole
   unfolding rowNumbers
-  live-end h = let e : n - i ≡ 0 = omega arith in ap (λ (x : ℕ). isIn k (rowNumbers l (liveWidth * i) x)) (sym e) ∙ inv
+  live-end h = walk-end (λ (p : ℕ). p + liveWidth) found (liveWidth * i) (n - i) whole inv (omega arith)
 
 pub live-start : (l : List ℕ) (n m k : ℕ) → n ≡ m → isIn k (rowNumbers l (liveWidth * 0) (n - 0)) ≡ isIn k (rowNumbers l 0 m)
 live-start l n m k e = let z : n - 0 ≡ m = omega arith in ap (λ (x : ℕ). isIn k (rowNumbers l 0 x)) z

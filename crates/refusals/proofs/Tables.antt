@@ -3,7 +3,7 @@ use Prim.Native.Nat.{ℕ, zero, suc, _+_, _*_}
 use native.Mathlib.Omega.{arith}
 use mathlib.Core.Path.{_≡_, refl, sym, ap, _∙_}
 use mathlib.Core.Bool.{Bool, false, not, _&&_, _||_}
-use mathlib.Core.List.{List, [], _∷_, _++_, map}
+use mathlib.Core.List.{List, [], _∷_, _++_, map, map-map}
 use lib.Dec.{leb, ltb, eqb, eqb·suc-zero}
 use lib.ListN.{length, getD}
 use borrow.Author.Tests.{eq-eqb, ne-eqb}
@@ -13,10 +13,12 @@ use Rattle.model.specs.Transactions.{Uncommitted, Waiting, finished, failed, fr
 use Rattle.model.specs.Refusals.{rows, firstOf, isIn}
 use Rattle.model.specs.declared.Event.{Event}
 use Rattle.model.specs.declared.Scheme.{Scheme}
-use Rattle.record.specs.View.{fragmentAt, memberAt, uncommittedOf, waitingOf, viewOf}
+use Rattle.record.specs.Walk.{places}
+use Rattle.record.specs.View.{fragmentAt, rowAt, memberAt, uncommittedOf, waitingOf, viewOf}
+use Rattle.record.proofs.Queues.{length-waiting, length-uncommitted, rows-live, numbers-rows}
 use Rattle.refusals.specs.Rest.{callOf, behindFirst, rowNumbers, frontIs, foreign, shapeRows, knownRows, fragmentRows, decisionRows}
 use Rattle.refusals.proofs.Firsts.{first-hit, first-miss}
-use Rattle.record.specs.Widths.{liveWidth, runWidth}
+use Rattle.record.specs.Widths.{liveWidth}
 
 -- rows 8 to 14, from what they ask
 abbrev lastRows : (arrives commits fresh ready other full ran unready broken : Bool) → List (ℕ × Bool)
@@ -30,31 +32,15 @@ lastRows arrives commits fresh ready other full ran unready broken =
     ∷ (14, commits && broken)
     ∷ []
 
--- the numbers and the lengths of the two queues, which stand one behind the other
+-- the numbers of the two queues, which stand one behind the other
 waiting-numbers : (l : List ℕ) (b n : ℕ) → map (λ (w : Waiting). w .number) (waitingOf l b n) ≡ rowNumbers l b n
 unfolding waitingOf rowNumbers
-waiting-numbers l b zero = refl
-waiting-numbers l b (suc n) = ap {B = List ℕ} (λ (x : List ℕ). getD l b 0 ∷ x) (waiting-numbers l (b + liveWidth) n)
+waiting-numbers l b n = map-map (λ (w : Waiting). w .number) (rowAt l) (places b liveWidth n)
 
-length-waiting : (l : List ℕ) (b n : ℕ) → length (waitingOf l b n) ≡ n
-unfolding waitingOf
-length-waiting l b zero = refl
-length-waiting l b (suc n) = ap suc (length-waiting l (b + liveWidth) n)
-
-length-uncommitted : (l : List ℕ) (b : ℕ) (r : List ℕ) (c : ℕ) (d : List ℕ) (a n : ℕ) → length (uncommittedOf l b r c d a n) ≡ n
-unfolding uncommittedOf
-length-uncommitted l b r c d a zero = refl
-length-uncommitted l b r c d a (suc n) = ap suc (length-uncommitted l (b + liveWidth) r (c + runWidth) d (a + 2 * getD r (c + 3) 0) n)
-
-live-numbers : (l : List ℕ) (b : ℕ) (r : List ℕ) (c : ℕ) (d : List ℕ) (a n b′ m : ℕ) → b′ ≡ b + liveWidth * n → numbers (uncommittedOf l b r c d a n) (waitingOf l b′ m) ≡ rowNumbers l b (n + m)
-unfolding uncommittedOf memberAt rowNumbers
-live-numbers l b r c d a zero b′ m e =
-    let z : b′ ≡ b = omega arith in
-    let y : m ≡ 0 + m = omega arith in
-    waiting-numbers l b′ m ∙ (λ i. rowNumbers l (z i) (y i))
-live-numbers l b r c d a (suc n) b′ m e =
-    let z : suc (n + m) ≡ suc n + m = omega arith in
-    ap {B = List ℕ} (λ (x : List ℕ). getD l b 0 ∷ x) (live-numbers l (b + liveWidth) r (c + runWidth) d (a + 2 * getD r (c + 3) 0) n b′ m (omega arith)) ∙ ap (rowNumbers l b) z
+live-numbers : (live runs undo : List ℕ) (n m : ℕ) → numbers (uncommittedOf live 0 runs 0 undo 0 n) (waitingOf live (liveWidth * n) m) ≡ rowNumbers live 0 (n + m)
+live-numbers live runs undo n m =
+    numbers-rows (uncommittedOf live 0 runs 0 undo 0 n) (waitingOf live (liveWidth * n) m)
+    ∙ ap (map (λ (w : Waiting). w .number)) (rows-live live runs undo 0 0 0 n (liveWidth * n) m (omega arith)) ∙ waiting-numbers live 0 (n + m)
 
 module _ (live runs undo : List ℕ) where
   front-number : (u n : ℕ) → front (λ (x : Uncommitted). eqb (x .number) n) (uncommittedOf live 0 runs 0 undo 0 u) ≡ frontIs u live n
@@ -92,10 +78,10 @@ module _ (σ : Scheme) (count largest u w : ℕ) (live runs undo : List ℕ) (v 
   unfolding rows viewOf memberAt fragmentAt
   cut =
       let n : ℕ = v .number in
-      let ns = live-numbers live 0 runs 0 undo 0 u (liveWidth * u) w (omega arith) in
+      let ns = live-numbers live runs undo u w in
       let number = front-number live runs undo u n in
       let at = front-which live runs undo u n in
-      let many : length (uncommittedOf live 0 runs 0 undo 0 u) + length (waitingOf live (liveWidth * u) w) ≡ u + w = omega (arith, length-uncommitted live 0 runs 0 undo 0 u, length-waiting live (liveWidth * u) w) in
+      let many : length (uncommittedOf live 0 runs 0 undo 0 u) + length (waitingOf live (liveWidth * u) w) ≡ u + w = omega (arith, length-uncommitted live runs undo 0 0 0 u, length-waiting live (liveWidth * u) w) in
       λ i. firstOf
       (shapeRows count v cells room
       ++ (knownRows (isIn n (ns i)) fresh (number i)

@@ -1,7 +1,7 @@
 -- Rows 2 to 14 of the table of refusals, and the same rows as the words of a record give them.
-use Prim.Native.Nat.{ℕ, zero, suc, _+_}
+use Prim.Native.Nat.{ℕ}
 use mathlib.Core.Bool.{Bool, not, _&&_, _||_}
-use mathlib.Core.List.{List, [], _∷_}
+use mathlib.Core.List.{List, [], _∷_, map}
 use lib.Dec.{leb, ltb, eqb}
 use lib.ListN.{length, getD}
 use Rattle.model.specs.Limits.{mostFragments, mostLive, leastRoom}
@@ -11,6 +11,7 @@ use Rattle.model.specs.Refusals.{Call, formedEvent, inside}
 use Rattle.model.specs.declared.Fragment.{Fragment}
 use Rattle.model.specs.declared.Event.{Event}
 use Rattle.model.specs.declared.Scheme.{Scheme}
+use Rattle.record.specs.Walk.{places}
 use Rattle.record.specs.View.{stateOf}
 use Rattle.record.specs.Widths.{liveWidth}
 
@@ -24,8 +25,7 @@ behindFirst (r ∷ rs) = rs
 
 -- the numbers of n rows of live transactions, the first of which starts at b
 unfoldable pub rowNumbers : List ℕ → ℕ → ℕ → List ℕ
-rowNumbers l b zero = []
-rowNumbers l b (suc n) = getD l b 0 ∷ rowNumbers l (b + liveWidth) n
+rowNumbers l b n = map (λ (p : ℕ). getD l p 0) (places b liveWidth n)
 
 -- is the front, the first of u uncommitted ones, the transaction n
 abbrev pub frontIs : ℕ → List ℕ → ℕ → Bool

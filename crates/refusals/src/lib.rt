@@ -7,10 +7,11 @@ ghost use Rattle.model.specs.Limits.{mostLive};
 ghost use Rattle.model.specs.Transactions.{finished};
 ghost use Rattle.model.specs.Refusals.{rows, firstOf, formedEvent, isIn};
 ghost use Rattle.model.specs.declared.Scheme.{Scheme};
-ghost use Rattle.record.specs.View.{viewOf, stateOf};
+ghost use Rattle.record.specs.View.{viewBy, stateOf};
 ghost use Rattle.refusals.specs.Rest.{callOf, behindFirst, rowNumbers, frontIs, foreign, shapeRows, knownRows, fragmentRows, decisionRows};
 use model::Event;
 use model::Fragment;
+use record::Counts;
 
 // Refusal 4: a number, and a fragment for an arrival or none of its words for a decision.
 pub(crate) fn is_formed_event(v: Event) -> bool
@@ -195,10 +196,7 @@ pub(crate) fn decision_row(commits: bool, fresh: bool, front: bool, runs: &[u32]
 // "Checks run in this order and the first that applies is returned": from row 2 on, 0 where none of these rows applies;
 // whatever the scheme.
 pub fn refused_row(
-    count: u32,
-    largest: u32,
-    uncommitted: u32,
-    waiting: u32,
+    counts: Counts,
     live: &[u32],
     runs: &[u32],
     undo: &[u32],
@@ -206,16 +204,17 @@ pub fn refused_row(
     room: &[u32],
     event: Event,
 ) -> u32
-    ensures { λ r. ⌜ ((σ : Scheme) → r ≡ firstOf (behindFirst (rows (viewOf count largest uncommitted waiting (now (live .entry)) (now (runs .entry)) (now (undo .entry))) (callOf σ event (now (cells .entry)) (now (room .entry)))))) ⌝ }
+    ensures { λ r. ⌜ ((σ : Scheme) → r ≡ firstOf (behindFirst (rows
+        (viewBy counts (now (live .entry)) (now (runs .entry)) (now (undo .entry))) (callOf σ event (now (cells .entry)) (now (room .entry)))))) ⌝ }
 {
-    let shape = shape_row(count, cells, room, event);
+    let shape = shape_row(counts.cells, cells, room, event);
     if shape != 0 {
         return shape;
     }
     let number = event.number;
-    let fresh = largest < number;
-    let lives = is_live(live, uncommitted, waiting, number);
-    let front = is_front(uncommitted, live, number);
+    let fresh = counts.largest < number;
+    let lives = is_live(live, counts.uncommitted, counts.waiting, number);
+    let front = is_front(counts.uncommitted, live, number);
     let known = known_row(lives, fresh, front);
     if known != 0 {
         return known;
@@ -223,7 +222,15 @@ pub fn refused_row(
     let kind = event.kind;
     if kind == 1 {
         let f = event.fragment;
-        return fragment_row(uncommitted, waiting, fresh, front, live, runs, f);
+        return fragment_row(
+            counts.uncommitted,
+            counts.waiting,
+            fresh,
+            front,
+            live,
+            runs,
+            f,
+        );
     }
     decision_row(kind == 2, fresh, front, runs)
 }

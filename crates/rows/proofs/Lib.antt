@@ -1,2 +1,4 @@
 pub mod Reading
 pub mod Unique
+pub mod Rooms
+pub mod Placed

@@ -11,10 +11,10 @@ use Rattle.rows.proofs.begun_row.Kinds as begun-row-kinds
 use Rattle.rows.proofs.begun_row.Reads as begun-row
 use Rattle.rows.proofs.is_multi_row.Kinds as is-multi-row-kinds
 use Rattle.rows.proofs.is_multi_row.Reads as is-multi-row
-use Rattle.rows.proofs.same_coordinator.Kinds as same-coordinator-kinds
-use Rattle.rows.proofs.same_coordinator.Reads as same-coordinator
-use Rattle.rows.proofs.nearer.Kinds as nearer-kinds
-use Rattle.rows.proofs.nearer.Reads as nearer
+use Rattle.rows.proofs.one_coordinator.Kinds as one-coordinator-kinds
+use Rattle.rows.proofs.one_coordinator.Reads as one-coordinator
+use Rattle.rows.proofs.nearest_multi.Kinds as nearest-multi-kinds
+use Rattle.rows.proofs.nearest_multi.Reads as nearest-multi
 use Rattle.rows.proofs.is_answered.Kinds as is-answered-kinds
 use Rattle.rows.proofs.is_answered.Reads as is-answered
 use Rattle.rows.proofs.is_joining.Kinds as is-joining-kinds
@@ -43,11 +43,11 @@ begun-row-unique κs a z z′ ws ws′ p q = (cc, refl)
 pub is-multi-row-unique : Unique is-multi-row-kinds.ps is-multi-row-kinds.r is-multi-row.Learnt
 is-multi-row-unique κs a z z′ ws ws′ p q = (cc, refl)
 
-pub same-coordinator-unique : Unique same-coordinator-kinds.ps same-coordinator-kinds.r same-coordinator.Learnt
-same-coordinator-unique κs a z z′ ws ws′ p q = (cc, refl)
+pub one-coordinator-unique : Unique one-coordinator-kinds.ps one-coordinator-kinds.r one-coordinator.Learnt
+one-coordinator-unique κs a z z′ ws ws′ p q = (cc, refl)
 
-pub nearer-unique : Unique nearer-kinds.ps nearer-kinds.r nearer.Learnt
-nearer-unique κs a z z′ ws ws′ p q = (cc, refl)
+pub nearest-multi-unique : Unique nearest-multi-kinds.ps nearest-multi-kinds.r nearest-multi.Learnt
+nearest-multi-unique κs a z z′ ws ws′ p q = (cc, refl)
 
 pub is-answered-unique : Unique is-answered-kinds.ps is-answered-kinds.r is-answered.Learnt
 is-answered-unique κs a z z′ ws ws′ p q = (cc, refl)

@@ -1,13 +1,17 @@
 -- What is read off one row and what is laid in one: the words of an answer and of a run, and of the rows of live transactions.
-use Prim.Native.Nat.{ℕ, zero, suc, _+_, _*_, _-_, _%_}
+use Prim.Native.Nat.{ℕ, _+_, _*_, _-_, _%_}
 use mathlib.Core.Bool.{Bool, true, false, not, _&&_, _||_}
-use mathlib.Core.List.{List, [], _∷_, _++_}
+use mathlib.Core.List.{List, [], _∷_, _++_, foldl}
 use lib.Dec.{leb, eqb}
 use lib.ListN.{getD, replicate}
+use lib.Seq.{sets}
+use Rattle.model.specs.Limits.{answerWords}
 use Rattle.model.specs.Operations.{pick}
+use Rattle.model.specs.Refusals.{every}
 use Rattle.model.specs.declared.Scheme.{Scheme}
 use Rattle.model.specs.declared.Scheme.the-variants.{Speculation, Blocking}
 use Rattle.operations.specs.declared.Ran.{Ran}
+use Rattle.record.specs.Walk.{places}
 use Rattle.record.specs.View.{numbersFrom}
 use Rattle.record.specs.Widths.{liveWidth, runWidth}
 
@@ -28,12 +32,15 @@ begunRow held last r =
     pick held (runRow 1 (stateWordAfter last (r .place)) 1 (r .entries) (r .place) (r .count) (r .numbers))
     (runRow 1 (stateWordAfter last (r .place)) 0 (r .entries) 0 0 (replicate 8 0))
 
--- a live transaction's row at place b: a single's, or with coordinator k; its number if it is a multi's, else d
+-- a live transaction's row at place b: a multi's; a single's, or with coordinator k; its number if it is a multi's, else d
+abbrev pub multiRow : List ℕ → ℕ → Bool
+multiRow l b = eqb (getD l (b + 1) 0 % 2) 1
+
 abbrev pub sameRow : List ℕ → ℕ → ℕ → Bool
-sameRow l b k = pick (eqb (getD l (b + 1) 0 % 2) 1) (eqb (getD l (b + 2) 0) k) true
+sameRow l b k = pick (multiRow l b) (eqb (getD l (b + 2) 0) k) true
 
 abbrev pub nearRow : List ℕ → ℕ → ℕ → ℕ
-nearRow l b d = pick (eqb (getD l (b + 1) 0 % 2) 1) (getD l b 0) d
+nearRow l b d = pick (multiRow l b) (getD l b 0) d
 
 -- what the drain decides of one that ran: is it answered now, does it join the uncommitted ones
 abbrev pub answeredNow : ℕ → Bool → Bool → Bool
@@ -58,18 +65,17 @@ holdsRow runs b = eqb (getD runs (b + 2) 0) 1
 abbrev pub heldRow : List ℕ → ℕ → ℕ → ℕ → List ℕ
 heldRow runs b n d = n ∷ d ∷ numbersFrom runs (b + 4) 10 ++ (0 ∷ 0 ∷ 0 ∷ 0 ∷ [])
 
-abbrev pub multiRow : List ℕ → ℕ → Bool
-multiRow live b = eqb (getD live (b + 1) 0 % 2) 1
-
 -- the words of the run at place b with its answer sent
 abbrev pub sentRow : List ℕ → ℕ → List ℕ
 sentRow runs b = runRow (getD runs b 0) (getD runs (b + 1) 0) 0 (getD runs (b + 3) 0) 0 0 (replicate 8 0)
 
 -- what `sameRow` asks and `nearRow` gives, of n rows from place b on
 unfoldable pub oneRows : List ℕ → ℕ → ℕ → ℕ → Bool
-oneRows l b zero k = true
-oneRows l b (suc n) k = sameRow l b k && oneRows l (b + liveWidth) n k
+oneRows l b n k = every (λ (p : ℕ). sameRow l p k) (places b liveWidth n)
 
 unfoldable pub nearRows : ℕ → List ℕ → ℕ → ℕ → ℕ
-nearRows d l b zero = d
-nearRows d l b (suc n) = nearRows (nearRow l b d) l (b + liveWidth) n
+nearRows d l b n = foldl (λ (x p : ℕ). nearRow l p x) d (places b liveWidth n)
+
+-- one answer more in the room
+abbrev pub withAnswer : ℕ → ℕ → ℕ → Ran → List ℕ → List ℕ
+withAnswer a n d r room = sets room (answerWords * a) (answerRow n d (r .place) (r .count) (r .numbers))

@@ -1,8 +1,8 @@
-// The words of an answer and of a run, and what the steps read off one row. Each function answers for every input.
+// The words of an answer and of a run, and what the steps read off rows. Each public function answers for every input.
 ghost use mathlib.Core.Path.{_≡_};
-ghost use Prim.Native.Nat.{_*_, min};
+ghost use Prim.Native.Nat.{_*_, _≤_, min};
 ghost use Rattle.record.specs.Widths.{runWidth};
-ghost use Rattle.rows.specs.Rows.{answerRow, runRow, stateWordAfter, begunRow, sameRow, nearRow, answeredNow, joinsQueue, blocking, mayTakeRow, heldRow, multiRow};
+ghost use Rattle.rows.specs.Rows.{answerRow, runRow, stateWordAfter, begunRow, sameRow, nearRow, oneRows, nearRows, answeredNow, joinsQueue, blocking, mayTakeRow, heldRow, multiRow};
 use model::Scheme;
 use operations::Ran;
 
@@ -95,37 +95,72 @@ pub fn begun_row(held: bool, last: bool, r: Ran) -> [u32; record::RUN_WORDS]
     }
 }
 
-// Is the transaction whose row starts at `at` a multi?
-pub fn is_multi_row(live: &[u32], at: u32) -> bool
+// A row of the live row that is a multi's.
+pub(crate) fn multi_at(live: &[u32], at: usize) -> bool
+    requires { ⌜ at ≤ 137438953472 ⌝ }
     ensures { λ r. ⌜ r ≡ multiRow (now (live .entry)) at ⌝ }
 {
-    let flags = operations::number_at(live, at as usize + 1);
+    let flags = operations::number_at(live, at + 1);
     flags % 2 == 1
 }
 
+// The same at a number of a place.
+pub fn is_multi_row(live: &[u32], at: u32) -> bool
+    ensures { λ r. ⌜ r ≡ multiRow (now (live .entry)) at ⌝ }
+{
+    multi_at(live, at as usize)
+}
+
 // A row of the live row that is a single's, or has coordinator k.
-pub fn same_coordinator(live: &[u32], at: u32, k: u32) -> bool
+pub(crate) fn same_coordinator(live: &[u32], at: usize, k: u32) -> bool
+    requires { ⌜ at ≤ 137438953472 ⌝ }
     ensures { λ r. ⌜ r ≡ sameRow (now (live .entry)) at k ⌝ }
 {
-    let flags = operations::number_at(live, at as usize + 1);
-    if flags % 2 == 1 {
-        let other = operations::number_at(live, at as usize + 2);
+    if multi_at(live, at) {
+        let other = operations::number_at(live, at + 2);
         other == k
     } else {
         true
     }
 }
 
+// "all uncommitted multis .. have one coordinator (singles do not count)": k, over n rows of the live row from place b on.
+pub fn one_coordinator(live: &[u32], b: u32, n: u32, k: u32) -> bool
+    ensures { λ r. ⌜ r ≡ oneRows (now (live .entry)) b n k ⌝ }
+{
+    let mut i: u32 = 0;
+    while i < n {
+        if !same_coordinator(live, b as usize + record::LIVE_WORDS * i as usize, k) {
+            return false;
+        }
+        i = i + 1;
+    }
+    true
+}
+
 // The number of a row that is a multi's, d for a single's.
-pub fn nearer(live: &[u32], at: u32, d: u32) -> u32
+pub(crate) fn nearer(live: &[u32], at: usize, d: u32) -> u32
+    requires { ⌜ at ≤ 137438953472 ⌝ }
     ensures { λ r. ⌜ r ≡ nearRow (now (live .entry)) at d ⌝ }
 {
-    let flags = operations::number_at(live, at as usize + 1);
-    if flags % 2 == 1 {
-        operations::number_at(live, at as usize)
+    if multi_at(live, at) {
+        operations::number_at(live, at)
     } else {
         d
     }
+}
+
+// "the nearest multi ahead of it": the last multi's number of n rows, 0 where there is none.
+pub fn nearest_multi(live: &[u32], b: u32, n: u32) -> u32
+    ensures { λ r. ⌜ r ≡ nearRows 0 (now (live .entry)) b n ⌝ }
+{
+    let mut d: u32 = 0;
+    let mut i: u32 = 0;
+    while i < n {
+        d = nearer(live, b as usize + record::LIVE_WORDS * i as usize, d);
+        i = i + 1;
+    }
+    d
 }
 
 // Is the one that ran answered now: with nothing uncommitted, or a multi with one coordinator.

@@ -2,21 +2,21 @@
 use Prim.Native.Nat.{ℕ, zero, suc, _+_, _*_, _≤_}
 use native.Mathlib.Omega.{arith}
 use borrow.Author.Tests.{leb-true, le-leb, ltb-true, lt-ltb}
-use mathlib.Core.Path.{_≡_, refl, sym, ap, _∙_}
+use mathlib.Core.Path.{_≡_, refl, sym, ap, _∙_, subst}
 use mathlib.Core.Bool.{Bool, true, false, _&&_}
-use mathlib.Core.List.{List, [], _∷_, _++_, map}
+use mathlib.Core.List.{List, [], _∷_, map}
 use lib.Dec.{leb, ltb}
 use lib.ListN.{length, getD}
 use Rattle.model.specs.Transactions.{finished, Uncommitted, Waiting, undoList, numbers, front}
 use Rattle.model.specs.Refusals.{every, storable, behind, ready, sound}
 use Rattle.model.specs.Demand.{Rises}
-use Rattle.model.specs.declared.Undo.{Undo}
 use Rattle.model.proofs.Chain.{all-map}
 use Rattle.model.proofs.Tests.{both, and-left, and-right, every-append, every-first, every-rest}
 use Rattle.model.proofs.Sound.{sound-parts, parts-sound}
-use Rattle.operations.specs.Laid.{entriesOf}
+use Rattle.record.specs.Words.{liveRows}
 use Rattle.record.specs.View.{fragmentAt, waitingOf, memberAt, stateOf, uncommittedOf, viewOf}
-use Rattle.soundness.specs.Groups.{rowOk, liveFrom, frontOk, nextOk, behindFrom, membersOk, totalFrom, undoOk, groups}
+use Rattle.record.proofs.Queues.{length-waiting, length-uncommitted, rows-live, entries-all, numbers-rows, all-rows, rows-all}
+use Rattle.soundness.specs.Groups.{rowOk, liveFrom, frontOk, nextOk, followsOk, behindFrom, membersOk, totalFrom, undoOk, groups}
 use Rattle.soundness.proofs.Words.{same, finished-words, Run, member-state, next-one, one-next, next-run, next-ran, front-run, front-good, front-one, one-front}
 use Rattle.model.specs.Parts.{All, cellInside, SoundOne, Stored, badFront, Sound}
 use Rattle.record.specs.Widths.{liveWidth, runWidth}
@@ -27,162 +27,101 @@ Kept ct u = storable ct (u .first) ≡ true
 abbrev Ones : Uncommitted → Type 0
 Ones u = u .ran ≤ 1
 
--- Lists of rows
+-- The live rows
 
-pub length-waiting : (l : List ℕ) (b n : ℕ) → length (waitingOf l b n) ≡ n
-unfolding waitingOf
-length-waiting l b zero = refl
-length-waiting l b (suc n) = ap suc (length-waiting l (b + liveWidth) n)
+module _ (live : List ℕ) (top ct : ℕ) where
+  waiting-parts : (n b low : ℕ) → liveFrom top ct live b n low ≡ true → Rises low top (map (λ (w : Waiting). w .number) (waitingOf live b n)) × All (Stored ct) (waitingOf live b n)
+  unfolding liveFrom rowOk waitingOf
+  waiting-parts zero b low h = (leb-true low top h, tt)
+  waiting-parts (suc n) b low h =
+      let r = and-left (rowOk ct live b low) (liveFrom top ct live (b + liveWidth) n (getD live b 0)) h in
+      let p = waiting-parts n (b + liveWidth) (getD live b 0) (and-right (rowOk ct live b low) (liveFrom top ct live (b + liveWidth) n (getD live b 0)) h) in
+      ((ltb-true low (getD live b 0) (and-left (ltb low (getD live b 0)) (storable ct (fragmentAt live b)) r), p .0), (and-right (ltb low (getD live b 0)) (storable ct (fragmentAt live b)) r, p .1))
 
-entries-split : (l : List ℕ) (b m n : ℕ) → entriesOf l b (m + n) ≡ entriesOf l b m ++ entriesOf l (b + 2 * m) n
-unfolding entriesOf
-entries-split l b zero n =
-    let e : 0 + n ≡ n = omega arith in
-    let f : b ≡ b + 2 * 0 = omega arith in
-    λ i. entriesOf l (f i) (e i)
-entries-split l b (suc m) n =
-    let e : suc m + n ≡ suc (m + n) = omega arith in
-    let f : b + 2 + 2 * m ≡ b + 2 * suc m = omega arith in
-    ap (entriesOf l b) e ∙ ap (λ (x : List Undo). record { cell = getD l b 0; old = getD l (b + 1) 0 } ∷ x) (entries-split l (b + 2) m n ∙ ap (λ (x : ℕ). entriesOf l (b + 2) m ++ entriesOf l x n) f)
+  parts-waiting : (n b low : ℕ) → Rises low top (map (λ (w : Waiting). w .number) (waitingOf live b n)) → All (Stored ct) (waitingOf live b n) → liveFrom top ct live b n low ≡ true
+  unfolding liveFrom rowOk waitingOf
+  parts-waiting zero b low h k = le-leb low top h
+  parts-waiting (suc n) b low h k =
+      both (rowOk ct live b low) (liveFrom top ct live (b + liveWidth) n (getD live b 0)) (both (ltb low (getD live b 0)) (storable ct (fragmentAt live b)) (lt-ltb low (getD live b 0) (h .0)) (k .0)) (parts-waiting n (b + liveWidth) (getD live b 0) (h .1) (k .1))
 
-module _ (live runs undo : List ℕ) where
-  pub length-uncommitted : (b c d n : ℕ) → length (uncommittedOf live b runs c undo d n) ≡ n
-  unfolding uncommittedOf
-  length-uncommitted b c d zero = refl
-  length-uncommitted b c d (suc n) = ap suc (length-uncommitted (b + liveWidth) (c + runWidth) (d + 2 * getD runs (c + 3) 0) n)
+-- The uncommitted ones
 
-  undo-whole : (b c d n : ℕ) → undoList (uncommittedOf live b runs c undo d n) ≡ entriesOf undo d (totalFrom runs c n)
-  unfolding uncommittedOf memberAt totalFrom entriesOf
-  undo-whole b c d zero = refl
-  undo-whole b c d (suc n) =
-      let w : ℕ = getD runs (c + 3) 0 in
-      ap (λ (x : List Undo). entriesOf undo d (getD runs (c + 3) 0) ++ x) (undo-whole (b + liveWidth) (c + runWidth) (d + 2 * w) n)
-      ∙ sym (entries-split undo d w (totalFrom runs (c + runWidth) n))
+module _ (live runs undo : List ℕ) (ct : ℕ) where
+  behind-parts : (n b c d : ℕ) → behindFrom live b runs c n ≡ true → leb (getD runs (c + 1) 0) 2 ≡ true
+      → All (Kept ct) (uncommittedOf live (b + liveWidth) runs (c + runWidth) undo d n)
+      → every (cellInside ct) (undoList (uncommittedOf live (b + liveWidth) runs (c + runWidth) undo d n)) ≡ true
+      → All (SoundOne ct) (uncommittedOf live (b + liveWidth) runs (c + runWidth) undo d n)
+      × All Ones (uncommittedOf live (b + liveWidth) runs (c + runWidth) undo d n)
+      × ((u : Uncommitted) → u .state ≡ stateOf (getD runs (c + 1) 0) → ready (u ∷ uncommittedOf live (b + liveWidth) runs (c + runWidth) undo d n) ≡ true)
+  unfolding behindFrom uncommittedOf
+  behind-parts zero b c d h s k m = (tt, tt, λ u e. refl)
+  behind-parts (suc n) b c d h s k m =
+      let b′ : ℕ = b + liveWidth in
+      let c′ : ℕ = c + runWidth in
+      let d′ : ℕ = d + 2 * getD runs (c + runWidth + 3) 0 in
+      let one : Uncommitted = memberAt live b′ runs c′ undo d in
+      let more : List Uncommitted = uncommittedOf live (b′ + liveWidth) runs (c′ + runWidth) undo d′ n in
+      let g : followsOk live b runs c ≡ true = and-left (followsOk live b runs c) (behindFrom live b′ runs c′ n) h in
+      let f : leb 1 (getD runs (c + 1) 0) ≡ true = and-left (leb 1 (getD runs (c + 1) 0)) (nextOk live b′ runs c′) g in
+      let x : nextOk live b′ runs c′ ≡ true = and-right (leb 1 (getD runs (c + 1) 0)) (nextOk live b′ runs c′) g in
+      let r : Run 1 runs c′ = next-run live b′ runs c′ undo d x in
+      let here = next-one live b′ runs c′ undo d ct x (k .0) (every-first (cellInside ct) (one .undo) (undoList more) m) in
+      let p = behind-parts n b′ c′ d′ (and-right (followsOk live b runs c) (behindFrom live b′ runs c′ n) h) (r .state) (k .1) (every-rest (cellInside ct) (one .undo) (undoList more) m) in (
+        (here, p .0),
+        (next-ran live b′ runs c′ undo d x, p .1),
+        λ u e. both (finished (u .state)) (ready (one ∷ more)) (ap finished e ∙ finished-words (getD runs (c + 1) 0) ∙ both (leb 1 (getD runs (c + 1) 0)) (leb (getD runs (c + 1) 0) 2) f s) (p .2 one (member-state live b′ runs c′ undo d)),
+      )
 
-  -- The live rows
+  parts-behind : (n b c d : ℕ)
+      → All (SoundOne ct) (uncommittedOf live (b + liveWidth) runs (c + runWidth) undo d n)
+      → All Ones (uncommittedOf live (b + liveWidth) runs (c + runWidth) undo d n)
+      → (u : Uncommitted) → u .state ≡ stateOf (getD runs (c + 1) 0) → ready (u ∷ uncommittedOf live (b + liveWidth) runs (c + runWidth) undo d n) ≡ true
+      → behindFrom live b runs c n ≡ true
+  unfolding behindFrom uncommittedOf
+  parts-behind zero b c d s o u e h = refl
+  parts-behind (suc n) b c d s o u e h =
+      let b′ : ℕ = b + liveWidth in
+      let c′ : ℕ = c + runWidth in
+      let d′ : ℕ = d + 2 * getD runs (c + runWidth + 3) 0 in
+      let one : Uncommitted = memberAt live b′ runs c′ undo d in
+      let more : List Uncommitted = uncommittedOf live (b′ + liveWidth) runs (c′ + runWidth) undo d′ n in
+      let f : (leb 1 (getD runs (c + 1) 0) && leb (getD runs (c + 1) 0) 2) ≡ true = sym (finished-words (getD runs (c + 1) 0)) ∙ sym (ap finished e) ∙ and-left (finished (u .state)) (ready (one ∷ more)) h in
+      both (followsOk live b runs c) (behindFrom live b′ runs c′ n)
+      (both (leb 1 (getD runs (c + 1) 0)) (nextOk live b′ runs c′) (and-left (leb 1 (getD runs (c + 1) 0)) (leb (getD runs (c + 1) 0) 2) f) (one-next live b′ runs c′ undo d ct (s .0) (o .0)))
+      (parts-behind n b′ c′ d′ (s .1) (o .1) one (member-state live b′ runs c′ undo d) (and-right (finished (u .state)) (ready (one ∷ more)) h))
 
-  module _ (top ct : ℕ) where
-    waiting-parts : (n b low : ℕ) → liveFrom top ct live b n low ≡ true → Rises low top (map (λ (w : Waiting). w .number) (waitingOf live b n)) × All (Stored ct) (waitingOf live b n)
-    unfolding liveFrom rowOk waitingOf
-    waiting-parts zero b low h = (leb-true low top h, tt)
-    waiting-parts (suc n) b low h =
-        let r = and-left (rowOk ct live b low) (liveFrom top ct live (b + liveWidth) n (getD live b 0)) h in
-        let p = waiting-parts n (b + liveWidth) (getD live b 0) (and-right (rowOk ct live b low) (liveFrom top ct live (b + liveWidth) n (getD live b 0)) h) in
-        ((ltb-true low (getD live b 0) (and-left (ltb low (getD live b 0)) (storable ct (fragmentAt live b)) r), p .0), (and-right (ltb low (getD live b 0)) (storable ct (fragmentAt live b)) r, p .1))
+  members-parts : (n : ℕ) → membersOk live runs n ≡ true
+      → All (Kept ct) (uncommittedOf live 0 runs 0 undo 0 n)
+      → every (cellInside ct) (undoList (uncommittedOf live 0 runs 0 undo 0 n)) ≡ true
+      → All (SoundOne ct) (uncommittedOf live 0 runs 0 undo 0 n)
+      × All Ones (behind (uncommittedOf live 0 runs 0 undo 0 n))
+      × (front badFront (uncommittedOf live 0 runs 0 undo 0 n) ≡ false)
+      × (ready (uncommittedOf live 0 runs 0 undo 0 n) ≡ true)
+  unfolding membersOk uncommittedOf
+  members-parts zero h k m = (tt, tt, refl, refl)
+  members-parts (suc n) h k m =
+      let d′ : ℕ = 0 + 2 * getD runs 3 0 in
+      let one : Uncommitted = memberAt live 0 runs 0 undo 0 in
+      let more : List Uncommitted = uncommittedOf live liveWidth runs runWidth undo d′ n in
+      let f : frontOk live runs ≡ true = and-left (frontOk live runs) (behindFrom live 0 runs 0 n) h in
+      let p = behind-parts n 0 0 d′ (and-right (frontOk live runs) (behindFrom live 0 runs 0 n) h) (front-run live runs undo f .state) (k .1) (every-rest (cellInside ct) (one .undo) (undoList more) m) in
+      ((front-one live runs undo ct f (k .0) (every-first (cellInside ct) (one .undo) (undoList more) m), p .0), p .1, front-good live runs undo f, p .2 one (member-state live 0 runs 0 undo 0))
 
-    parts-waiting : (n b low : ℕ) → Rises low top (map (λ (w : Waiting). w .number) (waitingOf live b n)) → All (Stored ct) (waitingOf live b n) → liveFrom top ct live b n low ≡ true
-    unfolding liveFrom rowOk waitingOf
-    parts-waiting zero b low h k = le-leb low top h
-    parts-waiting (suc n) b low h k =
-        both (rowOk ct live b low) (liveFrom top ct live (b + liveWidth) n (getD live b 0)) (both (ltb low (getD live b 0)) (storable ct (fragmentAt live b)) (lt-ltb low (getD live b 0) (h .0)) (k .0)) (parts-waiting n (b + liveWidth) (getD live b 0) (h .1) (k .1))
+  parts-members : (n : ℕ)
+      → All (SoundOne ct) (uncommittedOf live 0 runs 0 undo 0 n)
+      → All Ones (behind (uncommittedOf live 0 runs 0 undo 0 n))
+      → front badFront (uncommittedOf live 0 runs 0 undo 0 n) ≡ false
+      → ready (uncommittedOf live 0 runs 0 undo 0 n) ≡ true
+      → membersOk live runs n ≡ true
+  unfolding membersOk uncommittedOf
+  parts-members zero s o f r = refl
+  parts-members (suc n) s o f r =
+      both (frontOk live runs) (behindFrom live 0 runs 0 n) (one-front live runs undo ct (s .0) f)
+      (parts-behind n 0 0 (0 + 2 * getD runs 3 0) (s .1) o (memberAt live 0 runs 0 undo 0) (member-state live 0 runs 0 undo 0) r)
 
-    module _ (w : ℕ) where
-      pub live-parts : (n b c d e low : ℕ) → e ≡ b + liveWidth * n → liveFrom top ct live b (n + w) low ≡ true
-          → Rises low top (numbers (uncommittedOf live b runs c undo d n) (waitingOf live e w)) × All (Kept ct) (uncommittedOf live b runs c undo d n) × All (Stored ct) (waitingOf live e w)
-      unfolding liveFrom rowOk uncommittedOf memberAt
-      live-parts zero b c d e low g h =
-          let x : b ≡ e = omega arith in
-          let y : 0 + w ≡ w = omega arith in
-          let p = waiting-parts w e low (sym (λ i. liveFrom top ct live (x i) (y i) low) ∙ h) in
-          (p .0, tt, p .1)
-      live-parts (suc n) b c d e low g h =
-          let y : suc (n + w) ≡ suc n + w = omega arith in
-          let k : liveFrom top ct live b (suc (n + w)) low ≡ true = ap (λ (x : ℕ). liveFrom top ct live b x low) y ∙ h in
-          let r = and-left (rowOk ct live b low) (liveFrom top ct live (b + liveWidth) (n + w) (getD live b 0)) k in
-          let p = live-parts n (b + liveWidth) (c + runWidth) (d + 2 * getD runs (c + 3) 0) e (getD live b 0) (omega arith) (and-right (rowOk ct live b low) (liveFrom top ct live (b + liveWidth) (n + w) (getD live b 0)) k) in
-          ((ltb-true low (getD live b 0) (and-left (ltb low (getD live b 0)) (storable ct (fragmentAt live b)) r), p .0), (and-right (ltb low (getD live b 0)) (storable ct (fragmentAt live b)) r, p .1), p .2)
-
-      pub parts-live : (n b c d e low : ℕ) → e ≡ b + liveWidth * n
-          → Rises low top (numbers (uncommittedOf live b runs c undo d n) (waitingOf live e w)) → All (Kept ct) (uncommittedOf live b runs c undo d n) → All (Stored ct) (waitingOf live e w)
-          → liveFrom top ct live b (n + w) low ≡ true
-      unfolding liveFrom rowOk uncommittedOf memberAt
-      parts-live zero b c d e low g h k m =
-          let x : b ≡ e = omega arith in
-          let y : 0 + w ≡ w = omega arith in
-          (λ i. liveFrom top ct live (x i) (y i) low) ∙ parts-waiting w e low h m
-      parts-live (suc n) b c d e low g h k m =
-          let y : suc n + w ≡ suc (n + w) = omega arith in
-          ap (λ (x : ℕ). liveFrom top ct live b x low) y
-          ∙ both (rowOk ct live b low) (liveFrom top ct live (b + liveWidth) (n + w) (getD live b 0)) (both (ltb low (getD live b 0)) (storable ct (fragmentAt live b)) (lt-ltb low (getD live b 0) (h .0)) (k .0))
-          (parts-live n (b + liveWidth) (c + runWidth) (d + 2 * getD runs (c + 3) 0) e (getD live b 0) (omega arith) (h .1) (k .1) m)
-
-  -- The uncommitted ones
-
-  module _ (ct : ℕ) where
-    behind-parts : (n b c d : ℕ) → behindFrom live b runs c n ≡ true → leb (getD runs (c + 1) 0) 2 ≡ true
-        → All (Kept ct) (uncommittedOf live (b + liveWidth) runs (c + runWidth) undo d n)
-        → every (cellInside ct) (undoList (uncommittedOf live (b + liveWidth) runs (c + runWidth) undo d n)) ≡ true
-        → All (SoundOne ct) (uncommittedOf live (b + liveWidth) runs (c + runWidth) undo d n)
-        × All Ones (uncommittedOf live (b + liveWidth) runs (c + runWidth) undo d n)
-        × ((u : Uncommitted) → u .state ≡ stateOf (getD runs (c + 1) 0) → ready (u ∷ uncommittedOf live (b + liveWidth) runs (c + runWidth) undo d n) ≡ true)
-    unfolding behindFrom uncommittedOf
-    behind-parts zero b c d h s k m = (tt, tt, λ u e. refl)
-    behind-parts (suc n) b c d h s k m =
-        let b′ : ℕ = b + liveWidth in
-        let c′ : ℕ = c + runWidth in
-        let d′ : ℕ = d + 2 * getD runs (c + runWidth + 3) 0 in
-        let one : Uncommitted = memberAt live b′ runs c′ undo d in
-        let more : List Uncommitted = uncommittedOf live (b′ + liveWidth) runs (c′ + runWidth) undo d′ n in
-        let f : leb 1 (getD runs (c + 1) 0) ≡ true = and-left (leb 1 (getD runs (c + 1) 0)) (nextOk live b′ runs c′ && behindFrom live b′ runs c′ n) h in
-        let h2 : (nextOk live b′ runs c′ && behindFrom live b′ runs c′ n) ≡ true = and-right (leb 1 (getD runs (c + 1) 0)) (nextOk live b′ runs c′ && behindFrom live b′ runs c′ n) h in
-        let x : nextOk live b′ runs c′ ≡ true = and-left (nextOk live b′ runs c′) (behindFrom live b′ runs c′ n) h2 in
-        let r : Run 1 runs c′ = next-run live b′ runs c′ undo d x in
-        let here = next-one live b′ runs c′ undo d ct x (k .0) (every-first (cellInside ct) (one .undo) (undoList more) m) in
-        let p = behind-parts n b′ c′ d′ (and-right (nextOk live b′ runs c′) (behindFrom live b′ runs c′ n) h2) (r .state) (k .1) (every-rest (cellInside ct) (one .undo) (undoList more) m) in (
-          (here, p .0),
-          (next-ran live b′ runs c′ undo d x, p .1),
-          λ u e. both (finished (u .state)) (ready (one ∷ more)) (ap finished e ∙ finished-words (getD runs (c + 1) 0) ∙ both (leb 1 (getD runs (c + 1) 0)) (leb (getD runs (c + 1) 0) 2) f s) (p .2 one (member-state live b′ runs c′ undo d)),
-        )
-
-    parts-behind : (n b c d : ℕ)
-        → All (SoundOne ct) (uncommittedOf live (b + liveWidth) runs (c + runWidth) undo d n)
-        → All Ones (uncommittedOf live (b + liveWidth) runs (c + runWidth) undo d n)
-        → (u : Uncommitted) → u .state ≡ stateOf (getD runs (c + 1) 0) → ready (u ∷ uncommittedOf live (b + liveWidth) runs (c + runWidth) undo d n) ≡ true
-        → behindFrom live b runs c n ≡ true
-    unfolding behindFrom uncommittedOf
-    parts-behind zero b c d s o u e h = refl
-    parts-behind (suc n) b c d s o u e h =
-        let b′ : ℕ = b + liveWidth in
-        let c′ : ℕ = c + runWidth in
-        let d′ : ℕ = d + 2 * getD runs (c + runWidth + 3) 0 in
-        let one : Uncommitted = memberAt live b′ runs c′ undo d in
-        let more : List Uncommitted = uncommittedOf live (b′ + liveWidth) runs (c′ + runWidth) undo d′ n in
-        let f : (leb 1 (getD runs (c + 1) 0) && leb (getD runs (c + 1) 0) 2) ≡ true = sym (finished-words (getD runs (c + 1) 0)) ∙ sym (ap finished e) ∙ and-left (finished (u .state)) (ready (one ∷ more)) h in
-        both (leb 1 (getD runs (c + 1) 0)) (nextOk live b′ runs c′ && behindFrom live b′ runs c′ n) (and-left (leb 1 (getD runs (c + 1) 0)) (leb (getD runs (c + 1) 0) 2) f)
-        (both (nextOk live b′ runs c′) (behindFrom live b′ runs c′ n) (one-next live b′ runs c′ undo d ct (s .0) (o .0)) (parts-behind n b′ c′ d′ (s .1) (o .1) one (member-state live b′ runs c′ undo d) (and-right (finished (u .state)) (ready (one ∷ more)) h)))
-
-    members-parts : (n : ℕ) → membersOk live runs n ≡ true
-        → All (Kept ct) (uncommittedOf live 0 runs 0 undo 0 n)
-        → every (cellInside ct) (undoList (uncommittedOf live 0 runs 0 undo 0 n)) ≡ true
-        → All (SoundOne ct) (uncommittedOf live 0 runs 0 undo 0 n)
-        × All Ones (behind (uncommittedOf live 0 runs 0 undo 0 n))
-        × (front badFront (uncommittedOf live 0 runs 0 undo 0 n) ≡ false)
-        × (ready (uncommittedOf live 0 runs 0 undo 0 n) ≡ true)
-    unfolding membersOk uncommittedOf
-    members-parts zero h k m = (tt, tt, refl, refl)
-    members-parts (suc n) h k m =
-        let d′ : ℕ = 0 + 2 * getD runs 3 0 in
-        let one : Uncommitted = memberAt live 0 runs 0 undo 0 in
-        let more : List Uncommitted = uncommittedOf live liveWidth runs 16 undo d′ n in
-        let f : frontOk live runs ≡ true = and-left (frontOk live runs) (behindFrom live 0 runs 0 n) h in
-        let p = behind-parts n 0 0 d′ (and-right (frontOk live runs) (behindFrom live 0 runs 0 n) h) (front-run live runs undo f .state) (k .1) (every-rest (cellInside ct) (one .undo) (undoList more) m) in
-        ((front-one live runs undo ct f (k .0) (every-first (cellInside ct) (one .undo) (undoList more) m), p .0), p .1, front-good live runs undo f, p .2 one (member-state live 0 runs 0 undo 0))
-
-    parts-members : (n : ℕ)
-        → All (SoundOne ct) (uncommittedOf live 0 runs 0 undo 0 n)
-        → All Ones (behind (uncommittedOf live 0 runs 0 undo 0 n))
-        → front badFront (uncommittedOf live 0 runs 0 undo 0 n) ≡ false
-        → ready (uncommittedOf live 0 runs 0 undo 0 n) ≡ true
-        → membersOk live runs n ≡ true
-    unfolding membersOk uncommittedOf
-    parts-members zero s o f r = refl
-    parts-members (suc n) s o f r =
-        both (frontOk live runs) (behindFrom live 0 runs 0 n) (one-front live runs undo ct (s .0) f)
-        (parts-behind n 0 0 (0 + 2 * getD runs 3 0) (s .1) o (memberAt live 0 runs 0 undo 0) (member-state live 0 runs 0 undo 0) r)
-
-    inside-each : (us : List Uncommitted) → All (SoundOne ct) us → every (cellInside ct) (undoList us) ≡ true
-    inside-each [] h = refl
-    inside-each (u ∷ us) h = every-append (cellInside ct) (u .undo) (undoList us) (h .0 .inside) (inside-each us (h .1))
+  inside-each : (us : List Uncommitted) → All (SoundOne ct) us → every (cellInside ct) (undoList us) ≡ true
+  inside-each [] h = refl
+  inside-each (u ∷ us) h = every-append (cellInside ct) (u .undo) (undoList us) (h .0 .inside) (inside-each us (h .1))
 
 -- The whole
 
@@ -211,8 +150,22 @@ module _ (count largest uncommitted waiting : ℕ) (live runs undo : List ℕ) w
   abbrev a6 : Bool
   a6 = undoOk count undo 0 (totalFrom runs 0 uncommitted)
 
-  start : liveWidth * uncommitted ≡ 0 + liveWidth * uncommitted
-  start = omega arith
+  -- both queues are one list of rows
+  rows : liveRows us ws ≡ waitingOf live 0 (uncommitted + waiting)
+  rows = rows-live live runs undo 0 0 0 uncommitted (liveWidth * uncommitted) waiting (omega arith)
+
+  numbered : numbers us ws ≡ map (λ (x : Waiting). x .number) (waitingOf live 0 (uncommitted + waiting))
+  numbered = numbers-rows us ws ∙ ap (map (λ (x : Waiting). x .number)) rows
+
+  live-parts : a4 ≡ true → Rises 0 largest (numbers us ws) × All (Kept count) us × All (Stored count) ws
+  live-parts h =
+      let p = waiting-parts live largest count (uncommitted + waiting) 0 0 h in
+      let q = all-rows (Stored count) us ws (subst (All (Stored count)) (sym rows) (p .1)) in
+      (subst (Rises 0 largest) (sym numbered) (p .0), q .0, q .1)
+
+  parts-live : Rises 0 largest (numbers us ws) → All (Kept count) us → All (Stored count) ws → a4 ≡ true
+  parts-live h k m =
+      parts-waiting live largest count (uncommitted + waiting) 0 0 (subst (Rises 0 largest) numbered h) (subst (All (Stored count)) rows (rows-all (Stored count) us ws k m))
 
   to-sound : groups count largest uncommitted waiting live runs undo ≡ true → Sound count largest us ws
   unfolding groups undoOk
@@ -221,8 +174,8 @@ module _ (count largest uncommitted waiting : ℕ) (live runs undo : List ℕ) w
       let h4 : (((a1 && a2) && a3) && a4) ≡ true = and-left (((a1 && a2) && a3) && a4) a5 h5 in
       let h3 : ((a1 && a2) && a3) ≡ true = and-left ((a1 && a2) && a3) a4 h4 in
       let h2 : (a1 && a2) ≡ true = and-left (a1 && a2) a3 h3 in
-      let l = live-parts live runs undo largest count waiting uncommitted 0 0 0 (liveWidth * uncommitted) 0 start (and-right ((a1 && a2) && a3) a4 h4) in
-      let u : every (cellInside count) (undoList us) ≡ true = ap (every (cellInside count)) (undo-whole live runs undo 0 0 0 uncommitted) ∙ and-right ((((a1 && a2) && a3) && a4) && a5) a6 h in
+      let l = live-parts (and-right ((a1 && a2) && a3) a4 h4) in
+      let u : every (cellInside count) (undoList us) ≡ true = ap (every (cellInside count)) (entries-all live runs undo 0 0 0 uncommitted) ∙ and-right ((((a1 && a2) && a3) && a4) && a5) a6 h in
       let m = members-parts live runs undo count uncommitted (and-right (((a1 && a2) && a3) && a4) a5 h5) (l .1) u in
       let lu : length us ≡ uncommitted = length-uncommitted live runs undo 0 0 0 uncommitted in
       let lw : length ws ≡ waiting = length-waiting live (liveWidth * uncommitted) waiting in
@@ -250,9 +203,9 @@ module _ (count largest uncommitted waiting : ℕ) (live runs undo : List ℕ) w
       (both (a1 && a2) a3
       (both a1 a2 (le-leb count 4096 (s .cells)) (le-leb uncommitted 16 (omega (arith, s .sixteen))))
       (le-leb (uncommitted + waiting) 64 (omega (arith, s .sixtyFour))))
-      (parts-live live runs undo largest count waiting uncommitted 0 0 0 (liveWidth * uncommitted) 0 start (s .rises) kept (s .waiting)))
+      (parts-live (s .rises) kept (s .waiting)))
       (parts-members live runs undo count uncommitted (s .each) (s .ones) (s .front) (s .ready)))
-      (sym (ap (every (cellInside count)) (undo-whole live runs undo 0 0 0 uncommitted)) ∙ inside-each live runs undo count us (s .each))
+      (sym (ap (every (cellInside count)) (entries-all live runs undo 0 0 0 uncommitted)) ∙ inside-each live runs undo count us (s .each))
 
   pub groups-sound : groups count largest uncommitted waiting live runs undo ≡ sound (viewOf count largest uncommitted waiting live runs undo)
   unfolding viewOf

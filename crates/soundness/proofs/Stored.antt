@@ -1,50 +1,44 @@
 -- A stored fragment asked where its words stand: its operations by threes, its unused places as words.
 use Prim.Native.Nat.{ℕ, zero, suc, _+_, _*_, _-_, _≤_, _<_, max}
 use native.Mathlib.Omega.{arith}
+use native.Mathlib.Nat.{add-assoc}
 use mathlib.Core.Path.{_≡_, refl, sym, ap, _∙_}
 use mathlib.Core.Bool.{Bool, true, false, _&&_, true≢false}
-use mathlib.Core.List.{List, [], _∷_, _++_}
+use mathlib.Core.List.{List, [], _∷_, _++_, map}
 use borrow.Author.Tests.{eq-eqb, ne-eqb, eqb-true, lt-leb}
 use lib.Dec.{leb, ltb, eqb}
-use lib.ListN.{getD, take, drop}
+use lib.ListN.{length, getD, take, drop}
+use lib.Seq.{take-at, drop-at}
 use Rattle.model.specs.Limits.{mostOperations}
 use Rattle.model.specs.Operations.{operations, multi, last}
 use Rattle.model.specs.Refusals.{every, formedOp, blankOp, formedKind, formed, inside, storable}
 use Rattle.model.specs.declared.Op.{Op}
 use Rattle.record.specs.View.{opAt, fragmentAt, numbersFrom}
 use Rattle.record.proofs.Rows.{numbers-snoc}
+use Rattle.record.proofs.Walks.{read-length, read-add, walk-on, walk-end}
 use Rattle.soundness.specs.Groups.{isZero, opsFrom, storableOp, kindOk}
 use Rattle.soundness.proofs.Turns.{on, off}
-use Rattle.record.specs.Widths.{liveWidth}
+use Rattle.record.specs.Widths.{opWidth, opsWidth, liveWidth}
 
 -- the eight operations of a fragment, by threes
 row-ops : (l : List ℕ) (at : ℕ) → fragmentAt l at .row ≡ opsFrom l (at + 4) 8
 unfolding fragmentAt opsFrom
-row-ops l at =
-    let a : at + 7 ≡ at + 4 + 3 = omega arith in
-    let b : at + 10 ≡ at + 4 + 3 + 3 = omega arith in
-    let c : at + 13 ≡ at + 4 + 3 + 3 + 3 = omega arith in
-    let d : at + 16 ≡ at + 4 + 3 + 3 + 3 + 3 = omega arith in
-    let e : at + 19 ≡ at + 4 + 3 + 3 + 3 + 3 + 3 = omega arith in
-    let f : at + 22 ≡ at + 4 + 3 + 3 + 3 + 3 + 3 + 3 = omega arith in
-    let g : at + 25 ≡ at + 4 + 3 + 3 + 3 + 3 + 3 + 3 + 3 = omega arith in
-    λ i. opAt l (at + 4) ∷ opAt l (a i) ∷ opAt l (b i) ∷ opAt l (c i) ∷ opAt l (d i) ∷ opAt l (e i) ∷ opAt l (f i) ∷ opAt l (g i) ∷ []
+row-ops l at = simp add-assoc
 
-take-ops : (l : List ℕ) (b n m : ℕ) → take n (opsFrom l b (n + m)) ≡ opsFrom l b n
-unfolding opsFrom
-take-ops l b zero m = refl
-take-ops l b (suc n) m = let e : suc n + m ≡ suc (n + m) = omega arith in ap (λ (x : ℕ). take (suc n) (opsFrom l b x)) e ∙ ap {B = List Op} (λ (x : List Op). opAt l b ∷ x) (take-ops l (b + 3) n m)
+module _ (l : List ℕ) (b n m : ℕ) where
+  cut : opsFrom l b (n + m) ≡ opsFrom l b n ++ opsFrom l (b + opWidth * n) m
+  unfolding opsFrom
+  cut = read-add (opAt l) opWidth b n m (b + opWidth * n) refl
 
-drop-ops : (l : List ℕ) (b n m : ℕ) → drop n (opsFrom l b (n + m)) ≡ opsFrom l (b + 3 * n) m
-unfolding opsFrom
-drop-ops l b zero m =
-    let e : 0 + m ≡ m = omega arith in
-    let p : b ≡ b + 3 * 0 = omega arith in
-    λ i. opsFrom l (p i) (e i)
-drop-ops l b (suc n) m =
-    let e : suc n + m ≡ suc (n + m) = omega arith in
-    let p : b + 3 + 3 * n ≡ b + 3 * suc n = omega arith in
-    ap (λ (x : ℕ). drop (suc n) (opsFrom l b x)) e ∙ drop-ops l (b + 3) n m ∙ ap (λ (x : ℕ). opsFrom l x m) p
+  many : length (opsFrom l b n) ≡ n
+  unfolding opsFrom
+  many = read-length (λ (p : ℕ). p + opWidth) (opAt l) b n
+
+  take-ops : take n (opsFrom l b (n + m)) ≡ opsFrom l b n
+  take-ops = ap (take n) cut ∙ take-at (opsFrom l b n) (opsFrom l (b + opWidth * n) m) n many
+
+  drop-ops : drop n (opsFrom l b (n + m)) ≡ opsFrom l (b + opWidth * n) m
+  drop-ops = ap (drop n) cut ∙ drop-at (opsFrom l b n) (opsFrom l (b + opWidth * n) m) n many
 
 three : (a b c r : Bool) → ((a && b && c) && r) ≡ (a && (b && (c && r)))
 three true true true r = refl
@@ -53,15 +47,15 @@ three true false c r = refl
 three false b c r = refl
 
 -- places that are blank, as words that are zero
-blank-words : (l : List ℕ) (b n : ℕ) → every blankOp (opsFrom l b n) ≡ every isZero (numbersFrom l b (3 * n))
+blank-words : (l : List ℕ) (b n : ℕ) → every blankOp (opsFrom l b n) ≡ every isZero (numbersFrom l b (opWidth * n))
 unfolding opsFrom numbersFrom
 blank-words l b zero = refl
 blank-words l b (suc n) =
-    let e : suc (suc (suc (3 * n))) ≡ 3 * suc n = omega arith in
+    let e : suc (suc (suc (opWidth * n))) ≡ opWidth * suc n = omega arith in
     let p : b + 1 + 1 ≡ b + 2 = omega arith in
-    let q : b + 3 ≡ b + 1 + 1 + 1 = omega arith in
-    three (isZero (getD l b 0)) (isZero (getD l (b + 1) 0)) (isZero (getD l (b + 2) 0)) (every blankOp (opsFrom l (b + 3) n))
-    ∙ (λ i. isZero (getD l b 0) && (isZero (getD l (b + 1) 0) && (isZero (getD l (sym p i) 0) && (blank-words l (b + 3) n ∙ ap (λ (x : ℕ). every isZero (numbersFrom l x (3 * n))) q) i)))
+    let q : b + opWidth ≡ b + 1 + 1 + 1 = omega arith in
+    three (isZero (getD l b 0)) (isZero (getD l (b + 1) 0)) (isZero (getD l (b + 2) 0)) (every blankOp (opsFrom l (b + opWidth) n))
+    ∙ (λ i. isZero (getD l b 0) && (isZero (getD l (b + 1) 0) && (isZero (getD l (sym p i) 0) && (blank-words l (b + opWidth) n ∙ ap (λ (x : ℕ). every isZero (numbersFrom l x (opWidth * n))) q) i)))
     ∙ ap (λ (x : ℕ). every isZero (numbersFrom l b x)) e
 
 four : (a c r s : Bool) → ((a && c) && (r && s)) ≡ ((a && r) && (c && s))
@@ -89,29 +83,29 @@ shuffle true true true false f k false = refl
 
 -- all that is asked of a stored fragment, where its words stand
 pub stored-by : (l : List ℕ) (at ct n : ℕ) → getD l (at + 3) 0 ≡ n → n ≤ 8
-    → storable ct (fragmentAt l at) ≡ (leb 1 n && leb n 8 && every (storableOp ct) (opsFrom l (at + 4) n) && every isZero (numbersFrom l (at + 4 + 3 * n) (24 - 3 * n)) && leb (getD l (at + 1) 0) 3 && kindOk (getD l (at + 1) 0) (getD l (at + 2) 0))
+    → storable ct (fragmentAt l at) ≡ (leb 1 n && leb n 8 && every (storableOp ct) (opsFrom l (at + 4) n) && every isZero (numbersFrom l (at + 4 + opWidth * n) (opsWidth - opWidth * n)) && leb (getD l (at + 1) 0) 3 && kindOk (getD l (at + 1) 0) (getD l (at + 2) 0))
 unfolding formed inside operations fragmentAt multi last
 stored-by l at ct n e h =
     let m : n + (8 - n) ≡ 8 = omega arith in
-    let w : 3 * (8 - n) ≡ 24 - 3 * n = omega arith in
+    let w : opWidth * (8 - n) ≡ opsWidth - opWidth * n = omega arith in
     let ops : fragmentAt l at .row ≡ opsFrom l (at + 4) (n + (8 - n)) = row-ops l at ∙ ap (opsFrom l (at + 4)) (sym m) in
     let used : take (getD l (at + 3) 0) (fragmentAt l at .row) ≡ opsFrom l (at + 4) n = (λ i. take (e i) (ops i)) ∙ take-ops l (at + 4) n (8 - n) in
-    let rest : drop (getD l (at + 3) 0) (fragmentAt l at .row) ≡ opsFrom l (at + 4 + 3 * n) (8 - n) = (λ i. drop (e i) (ops i)) ∙ drop-ops l (at + 4) n (8 - n) in
-    let blank : every blankOp (drop (getD l (at + 3) 0) (fragmentAt l at .row)) ≡ every isZero (numbersFrom l (at + 4 + 3 * n) (24 - 3 * n)) =
-    ap (every blankOp) rest ∙ blank-words l (at + 4 + 3 * n) (8 - n) ∙ ap (λ (x : ℕ). every isZero (numbersFrom l (at + 4 + 3 * n) x)) w in
+    let rest : drop (getD l (at + 3) 0) (fragmentAt l at .row) ≡ opsFrom l (at + 4 + opWidth * n) (8 - n) = (λ i. drop (e i) (ops i)) ∙ drop-ops l (at + 4) n (8 - n) in
+    let blank : every blankOp (drop (getD l (at + 3) 0) (fragmentAt l at .row)) ≡ every isZero (numbersFrom l (at + 4 + opWidth * n) (opsWidth - opWidth * n)) =
+    ap (every blankOp) rest ∙ blank-words l (at + 4 + opWidth * n) (8 - n) ∙ ap (λ (x : ℕ). every isZero (numbersFrom l (at + 4 + opWidth * n) x)) w in
     let k : Bool = kindOk (getD l (at + 1) 0) (getD l (at + 2) 0) in
     let f : Bool = leb (getD l (at + 1) 0) 3 in
     (λ i. (leb 1 (e i) && leb (e i) 8 && every formedOp (used i) && blank i && f && k) && every (λ (o : Op). ltb (o .cell) ct) (used i))
-    ∙ shuffle (leb 1 n) (leb n 8) (every formedOp (opsFrom l (at + 4) n)) (every isZero (numbersFrom l (at + 4 + 3 * n) (24 - 3 * n))) f k (every (λ (o : Op). ltb (o .cell) ct) (opsFrom l (at + 4) n))
-    ∙ ap (λ (x : Bool). leb 1 n && leb n 8 && x && every isZero (numbersFrom l (at + 4 + 3 * n) (24 - 3 * n)) && f && k) (both ct (opsFrom l (at + 4) n))
+    ∙ shuffle (leb 1 n) (leb n 8) (every formedOp (opsFrom l (at + 4) n)) (every isZero (numbersFrom l (at + 4 + opWidth * n) (opsWidth - opWidth * n))) f k (every (λ (o : Op). ltb (o .cell) ct) (opsFrom l (at + 4) n))
+    ∙ ap (λ (x : Bool). leb 1 n && leb n 8 && x && every isZero (numbersFrom l (at + 4 + opWidth * n) (opsWidth - opWidth * n)) && f && k) (both ct (opsFrom l (at + 4) n))
 
 -- the same from each answer
 pub stored-is : (l : List ℕ) (at ct n : ℕ) → getD l (at + 3) 0 ≡ n → n ≤ 8 → (p q a z f k : Bool) → leb 1 n ≡ p → leb n 8 ≡ q → every (storableOp ct) (opsFrom l (at + 4) n) ≡ a
-    → every isZero (numbersFrom l (at + 4 + 3 * n) (at + liveWidth - (at + 4 + 3 * n))) ≡ z → leb (getD l (at + 1) 0) 3 ≡ f → kindOk (getD l (at + 1) 0) (getD l (at + 2) 0) ≡ k
+    → every isZero (numbersFrom l (at + 4 + opWidth * n) (at + liveWidth - (at + 4 + opWidth * n))) ≡ z → leb (getD l (at + 1) 0) 3 ≡ f → kindOk (getD l (at + 1) 0) (getD l (at + 2) 0) ≡ k
     → (p && q && a && z && f && k) ≡ storable ct (fragmentAt l at)
 stored-is l at ct n e h p q a z f k ep eq ea ez ef ek =
-    let w : 24 - 3 * n ≡ at + liveWidth - (at + 4 + 3 * n) = omega arith in
-    sym (stored-by l at ct n e h ∙ (λ i. ep i && eq i && ea i && (ap (λ (x : ℕ). every isZero (numbersFrom l (at + 4 + 3 * n) x)) w ∙ ez) i && ef i && ek i))
+    let w : opsWidth - opWidth * n ≡ at + liveWidth - (at + 4 + opWidth * n) = omega arith in
+    sym (stored-by l at ct n e h ∙ (λ i. ep i && eq i && ea i && (ap (λ (x : ℕ). every isZero (numbersFrom l (at + 4 + opWidth * n) x)) w ∙ ez) i && ef i && ek i))
 
 -- "operations not 1 to 8"
 pub stored-many : (l : List ℕ) (at ct : ℕ) → 8 < getD l (at + 3) 0 → false ≡ storable ct (fragmentAt l at)
@@ -124,12 +118,15 @@ stored-many l at ct h = go (leb 1 (getD l (at + 3) 0)) _ _ _ _ _ ∙ ap (λ (x :
 
 -- one turn of the walk over operations
 module _ (ct : ℕ) (l : List ℕ) (b left : ℕ) (whole : Bool) (inv : every (storableOp ct) (opsFrom l b left) ≡ whole) where
-  module _ (more : 0 < left) where
-    used-next : (storableOp ct (opAt l b) && every (storableOp ct) (opsFrom l (b + 3) (left - 1))) ≡ whole
-    unfolding opsFrom
-    used-next = let e : suc (left - 1) ≡ left = omega arith in ap (λ (n : ℕ). every (storableOp ct) (opsFrom l b n)) e ∙ inv
+  abbrev ops : List ℕ → Bool
+  ops bs = every (storableOp ct) (map (opAt l) bs)
 
-    pub used-on : storableOp ct (opAt l b) ≡ true → every (storableOp ct) (opsFrom l (b + 3) (left - 1)) ≡ whole
+  module _ (more : 0 < left) where
+    used-next : (storableOp ct (opAt l b) && every (storableOp ct) (opsFrom l (b + opWidth) (left - 1))) ≡ whole
+    unfolding opsFrom
+    used-next = walk-on (λ (p : ℕ). p + opWidth) ops b left whole inv (b + opWidth) (left - 1) refl (omega arith)
+
+    pub used-on : storableOp ct (opAt l b) ≡ true → every (storableOp ct) (opsFrom l (b + opWidth) (left - 1)) ≡ whole
     used-on t = on (storableOp ct (opAt l b)) _ whole used-next t
 
     pub used-off : storableOp ct (opAt l b) ≡ false → false ≡ whole
@@ -137,7 +134,7 @@ module _ (ct : ℕ) (l : List ℕ) (b left : ℕ) (whole : Bool) (inv : every (s
 
   pub used-end : left ≤ 0 → true ≡ whole
   unfolding opsFrom
-  used-end h = let e : 0 ≡ left = omega arith in ap (λ (n : ℕ). every (storableOp ct) (opsFrom l b n)) e ∙ inv
+  used-end h = walk-end (λ (p : ℕ). p + opWidth) ops b left whole inv (omega arith)
 
 -- one turn of the walk over words
 every-snoc : (l : List ℕ) (w : ℕ) → every isZero (l ++ (w ∷ [])) ≡ (isZero w && every isZero l)

@@ -2,13 +2,14 @@
 use Prim.Native.Nat.{ℕ, suc, _+_, _-_, _≤_, _<_}
 use native.Mathlib.Omega.{arith}
 use borrow.Author.Tests.{le-leb, lt-leb, lt-ltb, le-ltb}
-use mathlib.Core.Path.{_≡_, sym, ap, _∙_}
+use mathlib.Core.Path.{_≡_, refl, sym, ap, _∙_}
 use mathlib.Core.Bool.{Bool, true, false, _&&_}
 use mathlib.Core.List.{List}
 use lib.Dec.{leb, ltb}
 use lib.ListN.{getD}
 use Rattle.operations.specs.Laid.{entriesOf}
-use Rattle.soundness.specs.Groups.{rowOk, liveFrom, nextOk, frontOk, behindFrom, membersOk, totalFrom, undoOk}
+use Rattle.record.proofs.Walks.{walk-on, walk-end, every-on, every-off, every-end}
+use Rattle.soundness.specs.Groups.{rowOk, liveAt, liveFrom, nextOk, frontOk, followsOk, nextPair, behindFrom, membersOk, undoOk}
 use Rattle.record.specs.Widths.{liveWidth, runWidth}
 
 pub on : (a r w : Bool) → (a && r) ≡ w → a ≡ true → r ≡ w
@@ -18,10 +19,13 @@ pub off : (a r w : Bool) → (a && r) ≡ w → a ≡ false → false ≡ w
 off a r w h e = ap (λ (x : Bool). x && r) (sym e) ∙ h
 
 module _ (largest cells : ℕ) (live : List ℕ) (b left low : ℕ) (whole : Bool) (inv : liveFrom largest cells live b left low ≡ whole) where
+  abbrev rows : List ℕ → Bool
+  rows bs = liveAt largest cells live bs low
+
   module _ (more : 0 < left) where
     live-next : (rowOk cells live b low && liveFrom largest cells live (b + liveWidth) (left - 1) (getD live b 0)) ≡ whole
     unfolding liveFrom
-    live-next = let e : suc (left - 1) ≡ left = omega arith in ap (λ (n : ℕ). liveFrom largest cells live b n low) e ∙ inv
+    live-next = walk-on (λ (p : ℕ). p + liveWidth) rows b left whole inv (b + liveWidth) (left - 1) refl (omega arith)
 
     pub live-on : (m : ℕ) → m ≡ getD live b 0 → rowOk cells live b low ≡ true → liveFrom largest cells live (b + liveWidth) (left - 1) m ≡ whole
     live-on m em e = ap (liveFrom largest cells live (b + liveWidth) (left - 1)) em ∙ on (rowOk cells live b low) _ whole live-next e
@@ -31,33 +35,35 @@ module _ (largest cells : ℕ) (live : List ℕ) (b left low : ℕ) (whole : Boo
 
   pub live-end : left ≤ 0 → leb low largest ≡ whole
   unfolding liveFrom
-  live-end h = let e : 0 ≡ left = omega arith in ap (λ (n : ℕ). liveFrom largest cells live b n low) e ∙ inv
+  live-end h = walk-end (λ (p : ℕ). p + liveWidth) rows b left whole inv (omega arith)
 
 module _ (live : List ℕ) (b : ℕ) (runs : List ℕ) (c left : ℕ) (whole : Bool) (inv : behindFrom live b runs c left ≡ whole) where
+  abbrev follows : ℕ × ℕ → Bool
+  follows s = followsOk live (s .0) runs (s .1)
+
   module _ (more : 0 < left) (s : ℕ) (es : s ≡ getD runs (c + 1) 0) where
-    behind-next : (leb 1 s && (nextOk live (b + liveWidth) runs (c + runWidth) && behindFrom live (b + liveWidth) runs (c + runWidth) (left - 1))) ≡ whole
-    unfolding behindFrom
-    behind-next =
-        let e : suc (left - 1) ≡ left = omega arith in
-        ap (λ (x : ℕ). leb 1 x && (nextOk live (b + liveWidth) runs (c + runWidth) && behindFrom live (b + liveWidth) runs (c + runWidth) (left - 1))) es
-        ∙ ap (behindFrom live b runs c) e ∙ inv
+    abbrev next : Bool
+    next = nextOk live (b + liveWidth) runs (c + runWidth)
 
     pub behind-open : s < 1 → false ≡ whole
-    behind-open h = off (leb 1 s) (nextOk live (b + liveWidth) runs (c + runWidth) && behindFrom live (b + liveWidth) runs (c + runWidth) (left - 1)) whole behind-next (lt-leb 1 s h)
+    unfolding behindFrom
+    behind-open h = every-off nextPair follows (b, c) left whole inv more (ap (λ (x : Bool). x && next) (ap (leb 1) (sym es) ∙ lt-leb 1 s h))
 
     module _ (h : 1 ≤ s) where
-      behind-mid : (nextOk live (b + liveWidth) runs (c + runWidth) && behindFrom live (b + liveWidth) runs (c + runWidth) (left - 1)) ≡ whole
-      behind-mid = on (leb 1 s) (nextOk live (b + liveWidth) runs (c + runWidth) && behindFrom live (b + liveWidth) runs (c + runWidth) (left - 1)) whole behind-next (le-leb 1 s h)
+      passed : followsOk live b runs c ≡ next
+      passed = ap (λ (x : Bool). x && next) (ap (leb 1) (sym es) ∙ le-leb 1 s h)
 
       pub behind-on : nextOk live (b + liveWidth) runs (c + runWidth) ≡ true → behindFrom live (b + liveWidth) runs (c + runWidth) (left - 1) ≡ whole
-      behind-on e = on (nextOk live (b + liveWidth) runs (c + runWidth)) _ whole behind-mid e
+      unfolding behindFrom
+      behind-on e = every-on nextPair follows (b, c) left whole inv (b + liveWidth, c + runWidth) (left - 1) refl (omega arith) (passed ∙ e)
 
       pub behind-off : nextOk live (b + liveWidth) runs (c + runWidth) ≡ false → false ≡ whole
-      behind-off e = off (nextOk live (b + liveWidth) runs (c + runWidth)) _ whole behind-mid e
+      unfolding behindFrom
+      behind-off e = every-off nextPair follows (b, c) left whole inv more (passed ∙ e)
 
   pub behind-end : left ≤ 0 → true ≡ whole
   unfolding behindFrom
-  behind-end h = let e : 0 ≡ left = omega arith in ap (behindFrom live b runs c) e ∙ inv
+  behind-end h = every-end nextPair follows (b, c) left whole inv (omega arith)
 
 module _ (live runs : List ℕ) (n : ℕ) where
   pub members-none : n ≡ 0 → true ≡ membersOk live runs n
@@ -67,21 +73,6 @@ module _ (live runs : List ℕ) (n : ℕ) where
   pub members-some : (n ≡ 0 → ⊥) → (frontOk live runs && behindFrom live 0 runs 0 (n - 1)) ≡ membersOk live runs n
   unfolding membersOk
   members-some h = let e : suc (n - 1) ≡ n = omega arith in ap (membersOk live runs) e
-
-module _ (runs : List ℕ) (c left sum whole : ℕ) (inv : sum + totalFrom runs c left ≡ whole) where
-  pub total-on : 0 < left → (w : ℕ) → w ≡ getD runs (c + 3) 0 → (sum + w) + totalFrom runs (c + runWidth) (left - 1) ≡ whole
-  unfolding totalFrom
-  total-on more w ew =
-      let e : suc (left - 1) ≡ left = omega arith in
-      let t : getD runs (c + 3) 0 + totalFrom runs (c + runWidth) (left - 1) ≡ totalFrom runs c left = ap (totalFrom runs c) e in
-      omega arith
-
-  pub total-end : left ≤ 0 → sum ≡ whole
-  unfolding totalFrom
-  total-end h =
-      let e : 0 ≡ left = omega arith in
-      let t : 0 ≡ totalFrom runs c left = ap (totalFrom runs c) e in
-      omega arith
 
 module _ (cells : ℕ) (undo : List ℕ) (b left : ℕ) (whole : Bool) (inv : undoOk cells undo b left ≡ whole) where
   module _ (more : 0 < left) (w : ℕ) (ew : w ≡ getD undo b 0) where

@@ -11,9 +11,9 @@ use Rattle.model.specs.Operations.{Outcome, multi}
 use Rattle.model.specs.Transactions.{finished, holds}
 use Rattle.model.specs.Refusals.{every, storable, fits, isState, isReply}
 use Rattle.model.proofs.Tests.{both, and-left, and-right}
-use Rattle.operations.specs.Laid.{entriesOf}
 use Rattle.record.specs.View.{fragmentAt, stateOf, replyOf, numbersFrom, memberAt}
 use Rattle.record.proofs.Rows.{length-numbers}
+use Rattle.record.proofs.Queues.{length-entries}
 use Rattle.soundness.specs.Groups.{replyOk, runOk, multiAt, frontOk, nextOk}
 use Rattle.model.specs.Parts.{cellInside, SoundOne, badFront}
 
@@ -66,13 +66,6 @@ sent-of runs c h k = go (eqb (getD runs (c + 2) 0) 0) (eqb (getD runs (c + 2) 0)
     go true b p q h k = refl
     go false true p q h k = absurd (true≢false k)
     go false false p q h k = h
-
--- Undo entries
-
-pub length-entries : (l : List ℕ) (b n : ℕ) → length (entriesOf l b n) ≡ n
-unfolding entriesOf
-length-entries l b zero = refl
-length-entries l b (suc n) = ap suc (length-entries l (b + 2) n)
 
 -- A run by parts
 

@@ -1,7 +1,7 @@
 -- Refusal 1 as one walk after the other asks it of a record's words, grouped by row. A read past a row's end gives 0.
 use Prim.Native.Nat.{ℕ, zero, suc, _+_, _*_, _%_}
 use mathlib.Core.Bool.{Bool, true, _&&_, _||_}
-use mathlib.Core.List.{List, [], _∷_}
+use mathlib.Core.List.{List, [], _∷_, map}
 use lib.Dec.{leb, ltb, eqb}
 use lib.ListN.{getD}
 use Rattle.model.specs.Refusals.{every, storable, formedOp, formedKind}
@@ -9,16 +9,17 @@ use Rattle.model.specs.declared.Op.{Op}
 use Rattle.model.specs.declared.Fragment.{Fragment}
 use Rattle.model.specs.declared.Undo.{Undo}
 use Rattle.operations.specs.Laid.{entriesOf}
+use Rattle.record.specs.Walk.{walk, places}
 use Rattle.record.specs.View.{opAt, fragmentAt}
-use Rattle.record.specs.Widths.{liveWidth, runWidth}
+unfoldable pub use Rattle.record.specs.View.{entriesFrom as totalFrom}
+use Rattle.record.specs.Widths.{opWidth, liveWidth, runWidth}
 
 abbrev pub isZero : ℕ → Bool
 isZero n = eqb n 0
 
 -- n operations, the first of which starts at b
 unfoldable pub opsFrom : List ℕ → ℕ → ℕ → List Op
-opsFrom l b zero = []
-opsFrom l b (suc n) = opAt l b ∷ opsFrom l (b + 3) n
+opsFrom l b n = map (opAt l) (places b opWidth n)
 
 -- an operation that 4 and 5 would not refuse
 abbrev pub storableOp : ℕ → Op → Bool
@@ -32,10 +33,14 @@ kindOk flags coordinator = formedKind (record { flags = flags; coordinator = coo
 unfoldable pub rowOk : ℕ → List ℕ → ℕ → ℕ → Bool
 rowOk cells live b low = ltb low (getD live b 0) && storable cells (fragmentAt live b)
 
--- n live rows, the first of which starts at b, behind the number `low`
+-- the live rows at these places, behind the number `low`
+abbrev pub liveAt : ℕ → ℕ → List ℕ → List ℕ → ℕ → Bool
+liveAt largest cells live [] low = leb low largest
+liveAt largest cells live (b ∷ bs) low = rowOk cells live b low && liveAt largest cells live bs (getD live b 0)
+
+-- n live rows, the first of which starts at b
 unfoldable pub liveFrom : ℕ → ℕ → List ℕ → ℕ → ℕ → ℕ → Bool
-liveFrom largest cells live b zero low = leb low largest
-liveFrom largest cells live b (suc n) low = rowOk cells live b low && liveFrom largest cells live (b + liveWidth) n (getD live b 0)
+liveFrom largest cells live b n low = liveAt largest cells live (places b liveWidth n) low
 
 -- the run that starts at c: its reply
 unfoldable pub replyOk : List ℕ → ℕ → Bool
@@ -58,20 +63,22 @@ frontOk live runs = multiAt live 0 && eqb (getD runs 2 0) 0 && runOk 8 runs 0
 unfoldable pub nextOk : List ℕ → ℕ → List ℕ → ℕ → Bool
 nextOk live b runs c = runOk 1 runs c && (multiAt live b || eqb (getD runs (c + 2) 0) 1)
 
+-- the one behind the one whose row starts at b and whose run at c, and that this one is finished
+abbrev pub followsOk : List ℕ → ℕ → List ℕ → ℕ → Bool
+followsOk live b runs c = leb 1 (getD runs (c + 1) 0) && nextOk live (b + liveWidth) runs (c + runWidth)
+
+-- a row and a run, and the next ones
+abbrev pub nextPair : ℕ × ℕ → ℕ × ℕ
+nextPair s = (s .0 + liveWidth, s .1 + runWidth)
+
 -- n ones behind the one whose row starts at b and whose run at c, each behind a finished one
 unfoldable pub behindFrom : List ℕ → ℕ → List ℕ → ℕ → ℕ → Bool
-behindFrom live b runs c zero = true
-behindFrom live b runs c (suc n) = leb 1 (getD runs (c + 1) 0) && (nextOk live (b + liveWidth) runs (c + runWidth) && behindFrom live (b + liveWidth) runs (c + runWidth) n)
+behindFrom live b runs c n = every (λ (s : ℕ × ℕ). followsOk live (s .0) runs (s .1)) (walk nextPair (b, c) n)
 
 -- n uncommitted ones
 unfoldable pub membersOk : List ℕ → List ℕ → ℕ → Bool
 membersOk live runs zero = true
 membersOk live runs (suc n) = frontOk live runs && behindFrom live 0 runs 0 n
-
--- how many undo entries n runs own, the first of which starts at c
-unfoldable pub totalFrom : List ℕ → ℕ → ℕ → ℕ
-totalFrom runs c zero = 0
-totalFrom runs c (suc n) = getD runs (c + 3) 0 + totalFrom runs (c + runWidth) n
 
 abbrev pub cellUnder : ℕ → Undo → Bool
 cellUnder cells x = ltb (x .cell) cells

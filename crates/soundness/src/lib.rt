@@ -5,7 +5,7 @@ ghost use mathlib.Core.Path.{_≡_};
 ghost use Prim.Native.Nat.{_+_, _*_, _-_, _≤_, max};
 ghost use lib.ListN.{length};
 ghost use Rattle.model.specs.Refusals.{every, storable, sound};
-ghost use Rattle.record.specs.View.{fragmentAt, numbersFrom, viewOf};
+ghost use Rattle.record.specs.View.{fragmentAt, numbersFrom, viewBy};
 ghost use Rattle.soundness.specs.Groups.{isZero, opsFrom, storableOp, kindOk, rowOk, liveFrom, replyOk, runOk, frontOk, nextOk, behindFrom, membersOk, totalFrom, undoOk};
 
 pub(crate) fn larger(a: u32, b: u32) -> u32
@@ -15,6 +15,7 @@ pub(crate) fn larger(a: u32, b: u32) -> u32
 }
 
 use model::Op;
+use record::Counts;
 
 // "unused place not zero": are the words of a row from `from` to before `to` all 0. The loop has no way out before its end, so that it can
 // take several words at once.
@@ -100,7 +101,7 @@ pub(crate) fn storable_in(live: &[u32], at: usize, cells: u32) -> bool
     if !used_ok(live, at + 4, n, cells) {
         return false;
     }
-    if !all_zero(live, at + 4 + 3 * n, at + record::LIVE_WORDS) {
+    if !all_zero(live, at + record::OPS_START + 3 * n, at + record::OPS_END) {
         return false;
     }
     let flags = live[at + 1];
@@ -307,32 +308,29 @@ pub(crate) fn undo_ok(undo: &[u32], n: usize, cells: u32) -> bool
 }
 
 // Refusal 1: whether these words are a sound record.
-pub fn is_sound(
-    count: u32,
-    largest: u32,
-    uncommitted: u32,
-    waiting: u32,
-    live: &[u32],
-    runs: &[u32],
-    undo: &[u32],
-) -> bool
-    ensures { λ r. ⌜ r ≡ sound (viewOf count largest uncommitted waiting (now (live .entry)) (now (runs .entry)) (now (undo .entry))) ⌝ }
+pub fn is_sound(counts: Counts, live: &[u32], runs: &[u32], undo: &[u32]) -> bool
+    ensures { λ r. ⌜ r ≡ sound (viewBy counts (now (live .entry)) (now (runs .entry)) (now (undo .entry))) ⌝ }
 {
-    if model::MOST_CELLS < count {
+    if model::MOST_CELLS < counts.cells {
         return false;
     }
-    if model::DEPTH < uncommitted {
+    if model::DEPTH < counts.uncommitted {
         return false;
     }
-    if model::MOST_LIVE - uncommitted < waiting {
+    if model::MOST_LIVE - counts.uncommitted < counts.waiting {
         return false;
     }
-    if !live_ok(live, uncommitted + waiting, largest, count) {
+    if !live_ok(
+        live,
+        counts.uncommitted + counts.waiting,
+        counts.largest,
+        counts.cells,
+    ) {
         return false;
     }
-    if !members_ok(live, runs, uncommitted) {
+    if !members_ok(live, runs, counts.uncommitted) {
         return false;
     }
-    let n = total(runs, uncommitted);
-    undo_ok(undo, n, count)
+    let n = total(runs, counts.uncommitted);
+    undo_ok(undo, n, counts.cells)
 }

@@ -5,21 +5,20 @@ use native.Mathlib.Nat.{add-assoc}
 use borrow.Author.Tests.{leb-true, eqb-true}
 use mathlib.Core.Path.{_≡_, refl, sym, ap, _∙_}
 use mathlib.Core.Bool.{Bool, true, false, true≢false}
-use mathlib.Core.List.{List, [], _∷_, _++_, append-assoc, map}
+use mathlib.Core.List.{List, [], _∷_, _++_, append-assoc}
 use lib.Dec.{eqb, leb}
 use lib.ListN.{length, getD, set, take, replicate, length-set, replicate-append-replicate}
-use lib.Seq.{sets, length-sets, getD-set-same, getD-set-other, ext-getD, getD-take, length-take-le}
+use lib.Seq.{sets, length-sets, getD-set-same, ext-getD, getD-take, length-take-le}
 use Rattle.model.specs.Operations.{Outcome, pick}
 use Rattle.model.specs.Transactions.{Running, Finished, Failed, NoState, Reply, Held, Sent, NoReply, Uncommitted, Waiting, undoList}
-use Rattle.model.specs.Steps.{requeued}
 use Rattle.model.specs.Refusals.{isState, isReply, fits, sound}
-use Rattle.model.specs.declared.Undo.{Undo}
 use Rattle.model.proofs.Tests.{and-left, and-right}
 use Rattle.model.proofs.Sound.{sound-parts, entries-most}
 use Rattle.operations.specs.Laid.{padded, flat, entriesOf}
 use Rattle.record.specs.Words.{rowWords, allRows, stateWord, replyWord, heldOutcome, outcomeWords, runWords, allRuns, liveRows}
 use Rattle.record.specs.View.{fragmentAt, waitingOf, numbersFrom, zeros, stateOf, replyOf, memberAt, uncommittedOf, viewOf}
-use Rattle.record.proofs.Rows.{length-numbers, numbers-same, getD-numbers, getD-sets-after, getD-padded}
+use Rattle.record.proofs.Rows.{length-numbers, numbers-add, numbers-same, getD-numbers, getD-sets-before, getD-sets-after, getD-padded}
+use Rattle.record.proofs.Queues.{length-waiting, length-entries, length-uncommitted, rows-live, entries-all}
 use Rattle.tidy.specs.Runs.{used, tidyRun, tidyRuns, entriesFrom}
 use Rattle.tidy.specs.Tidied.{Canonical}
 use Rattle.tidy.proofs.Loops.{used-sent, used-held, used-most}
@@ -27,14 +26,6 @@ use Rattle.model.specs.Parts.{All, SoundOne, Sound}
 use Rattle.record.specs.Widths.{liveWidth, runWidth, liveLength, runsLength, undoLength}
 
 -- Numbers of a row
-
-numbers-add : (l : List ℕ) (b m n : ℕ) → numbersFrom l b (m + n) ≡ numbersFrom l b m ++ numbersFrom l (b + m) n
-unfolding numbersFrom
-numbers-add l b zero n = let z : 0 + n ≡ n = omega arith in let y : b ≡ b + 0 = omega arith in λ i. numbersFrom l (y i) (z i)
-numbers-add l b (suc m) n =
-    let s : suc m + n ≡ suc (m + n) = omega arith in
-    let p : b + 1 + m ≡ b + suc m = omega arith in
-    ap (numbersFrom l b) s ∙ ap {B = List ℕ} (λ (x : List ℕ). getD l b 0 ∷ x) (numbers-add l (b + 1) m n ∙ ap (λ (x : ℕ). numbersFrom l (b + 1) m ++ numbersFrom l x n) p)
 
 numbers-take : (l : List ℕ) (n : ℕ) → n ≤ length l → take n l ≡ numbersFrom l 0 n
 numbers-take l n h =
@@ -55,33 +46,7 @@ rows-at l b (suc n) =
     let z : liveWidth * suc n ≡ liveWidth + liveWidth * n = omega arith in
     (λ i. row-at l b i ++ rows-at l (b + liveWidth) n i) ∙ sym (numbers-add l b liveWidth (liveWidth * n)) ∙ ap (numbersFrom l b) (sym z)
 
-waiting-add : (l : List ℕ) (b m n : ℕ) → waitingOf l b (m + n) ≡ waitingOf l b m ++ waitingOf l (b + liveWidth * m) n
-unfolding waitingOf
-waiting-add l b zero n = let z : 0 + n ≡ n = omega arith in let y : b ≡ b + liveWidth * 0 = omega arith in λ i. waitingOf l (y i) (z i)
-waiting-add l b (suc m) n =
-    let s : suc m + n ≡ suc (m + n) = omega arith in
-    let p : b + liveWidth + liveWidth * m ≡ b + liveWidth * suc m = omega arith in
-    ap (waitingOf l b) s ∙ ap {B = List Waiting} (λ (x : List Waiting). record { number = getD l b 0; fragment = fragmentAt l b } ∷ x) (waiting-add l (b + liveWidth) m n ∙ ap (λ (x : ℕ). waitingOf l (b + liveWidth) m ++ waitingOf l x n) p)
-
-waiting-length : (l : List ℕ) (b n : ℕ) → length (waitingOf l b n) ≡ n
-unfolding waitingOf
-waiting-length l b zero = refl
-waiting-length l b (suc n) = ap suc (waiting-length l (b + liveWidth) n)
-
 -- Entries
-
-entries-add : (l : List ℕ) (b m n : ℕ) → entriesOf l b (m + n) ≡ entriesOf l b m ++ entriesOf l (b + 2 * m) n
-unfolding entriesOf
-entries-add l b zero n = let z : 0 + n ≡ n = omega arith in let y : b ≡ b + 2 * 0 = omega arith in λ i. entriesOf l (y i) (z i)
-entries-add l b (suc m) n =
-    let s : suc m + n ≡ suc (m + n) = omega arith in
-    let p : b + 2 + 2 * m ≡ b + 2 * suc m = omega arith in
-    ap (entriesOf l b) s ∙ ap {B = List Undo} (λ (x : List Undo). record { cell = getD l b 0; old = getD l (b + 1) 0 } ∷ x) (entries-add l (b + 2) m n ∙ ap (λ (x : ℕ). entriesOf l (b + 2) m ++ entriesOf l x n) p)
-
-entries-length : (l : List ℕ) (b n : ℕ) → length (entriesOf l b n) ≡ n
-unfolding entriesOf
-entries-length l b zero = refl
-entries-length l b (suc n) = ap suc (entries-length l (b + 2) n)
 
 flat-at : (l : List ℕ) (b n : ℕ) → flat (entriesOf l b n) ≡ numbersFrom l b (2 * n)
 unfolding entriesOf numbersFrom
@@ -91,39 +56,14 @@ flat-at l b (suc n) =
     let y : b + 2 ≡ b + 1 + 1 = omega arith in
     ap {B = List ℕ} (λ (x : List ℕ). getD l b 0 ∷ getD l (b + 1) 0 ∷ x) (flat-at l (b + 2) n ∙ ap (λ (x : ℕ). numbersFrom l x (2 * n)) y) ∙ ap (numbersFrom l b) z
 
--- The members
-
-module _ (live runs undo : List ℕ) where
-  members-length : (b c d n : ℕ) → length (uncommittedOf live b runs c undo d n) ≡ n
-  unfolding uncommittedOf
-  members-length b c d zero = refl
-  members-length b c d (suc n) = ap suc (members-length (b + liveWidth) (c + runWidth) (d + 2 * getD runs (c + 3) 0) n)
-
-  members-requeued : (b c d n : ℕ) → map requeued (uncommittedOf live b runs c undo d n) ≡ waitingOf live b n
-  unfolding uncommittedOf waitingOf memberAt
-  members-requeued b c d zero = refl
-  members-requeued b c d (suc n) =
-      ap {B = List Waiting} (λ (x : List Waiting). record { number = getD live b 0; fragment = fragmentAt live b } ∷ x) (members-requeued (b + liveWidth) (c + runWidth) (d + 2 * getD runs (c + 3) 0) n)
-
-  members-undo : (b c d n : ℕ) → undoList (uncommittedOf live b runs c undo d n) ≡ entriesOf undo d (entriesFrom runs c n)
-  unfolding uncommittedOf memberAt entriesFrom entriesOf
-  members-undo b c d zero = refl
-  members-undo b c d (suc n) =
-      let k : ℕ = getD runs (c + 3) 0 in
-      ap (λ (x : List Undo). entriesOf undo d k ++ x) (members-undo (b + liveWidth) (c + runWidth) (d + 2 * k) n) ∙ sym (entries-add undo d k (entriesFrom runs (c + runWidth) n))
-
 -- Stores into a row
-
-sets-before : (l : List ℕ) (i : ℕ) (ws : List ℕ) (x : ℕ) → x < i → getD (sets l i ws) x 0 ≡ getD l x 0
-sets-before l i [] x h = refl
-sets-before l i (a ∷ ws) x h = sets-before (set l i a) (suc i) ws x (omega arith) ∙ getD-set-other l i x a 0 (λ e. omega arith)
 
 numbers-sets : (l : List ℕ) (i : ℕ) (ws : List ℕ) → i + length ws ≤ length l → numbersFrom (sets l i ws) i (length ws) ≡ ws
 unfolding numbersFrom
 numbers-sets l i [] h = refl
 numbers-sets l i (a ∷ ws) h =
     let row : List ℕ = sets (set l i a) (suc i) ws in
-    let first : getD row i 0 ≡ a = sets-before (set l i a) (suc i) ws i (omega arith) ∙ getD-set-same l i a 0 (omega arith) in
+    let first : getD row i 0 ≡ a = getD-sets-before (set l i a) (suc i) ws i (omega arith) ∙ getD-set-same l i a 0 (omega arith) in
     let s : i + 1 ≡ suc i = omega arith in
     let rest : numbersFrom row (i + 1) (length ws) ≡ ws = ap (λ (x : ℕ). numbersFrom row x (length ws)) s ∙ numbers-sets (set l i a) (suc i) ws (omega (arith, length-set l i a)) in
     λ j. first j ∷ rest j
@@ -145,7 +85,7 @@ module _ (row : List ℕ) (c : ℕ) where
 
   run-before : (x : ℕ) → x < c → getD (tidyRun row c) x 0 ≡ getD row x 0
   unfolding tidyRun
-  run-before x h = sets-before row (c + used row c) (numbersFrom (replicate runWidth 0) 0 (runWidth - used row c)) x (omega arith)
+  run-before x h = getD-sets-before row (c + used row c) (numbersFrom (replicate runWidth 0) 0 (runWidth - used row c)) x (omega arith)
 
   run-after : (x : ℕ) → c + runWidth ≤ x → getD (tidyRun row c) x 0 ≡ getD row x 0
   unfolding tidyRun
@@ -158,7 +98,7 @@ module _ (row : List ℕ) (c : ℕ) where
       let z : List ℕ = numbersFrom (replicate runWidth 0) 0 (runWidth - k) in
       let new : List ℕ = sets row (c + k) z in
       let s : runWidth ≡ k + (runWidth - k) = omega (arith, used-most row c) in
-      let first : numbersFrom new c k ≡ numbersFrom row c k = numbers-same new row c c k (λ x hx. sets-before row (c + k) z (c + x) (omega arith)) in
+      let first : numbersFrom new c k ≡ numbersFrom row c k = numbers-same new row c c k (λ x hx. getD-sets-before row (c + k) z (c + x) (omega arith)) in
       let rest : numbersFrom new (c + k) (runWidth - k) ≡ zeros (runWidth - k) =
       ap (numbersFrom new (c + k)) (sym blanks-length) ∙ numbers-sets row (c + k) z (omega (arith, blanks-length, used-most row c)) ∙ zeros-at 0 (runWidth - k) in
       ap (numbersFrom new c) s ∙ numbers-add new c k (runWidth - k) ∙ (λ j. first j ++ rest j)
@@ -204,14 +144,14 @@ module _ (live : List ℕ) (b : ℕ) (runs : List ℕ) (c : ℕ) (undo : List �
   five = omega arith
 
   entries : length (entriesOf undo d (getD runs (c + 3) 0)) ≡ getD runs (c + 1 + 1 + 1) 0
-  entries = entries-length undo d (getD runs (c + 3) 0) ∙ ap (λ (x : ℕ). getD runs x 0) three
+  entries = length-entries undo d (getD runs (c + 3) 0) ∙ ap (λ (x : ℕ). getD runs x 0) three
 
   sent-words : isState (stateOf (getD runs (c + 1) 0)) ≡ true → getD runs (c + 2) 0 ≡ 0 → before Sent ≡ after (used runs c)
   unfolding numbersFrom padded
   sent-words hs e =
       let s : stateWord (stateOf (getD runs (c + 1) 0)) ≡ getD runs (c + 1) 0 = state-word (getD runs (c + 1) 0) hs in
       let r : 0 ≡ getD runs (c + 1 + 1) 0 = sym e ∙ ap (λ (x : ℕ). getD runs x 0) two in
-      (λ j. getD runs c 0 ∷ s j ∷ r j ∷ entries j ∷ zeros 12) ∙ ap after (sym (used-sent runs c (λ h. omega arith)))
+      (λ j. getD runs c 0 ∷ s j ∷ r j ∷ entries j ∷ zeros (runWidth - 4)) ∙ ap after (sym (used-sent runs c (λ h. omega arith)))
 
   held-words : isState (stateOf (getD runs (c + 1) 0)) ≡ true → getD runs (c + 2) 0 ≡ 1 → getD runs (c + 5) 0 ≤ 8 → before (Held held) ≡ after (used runs c)
   unfolding numbersFrom padded
@@ -298,7 +238,7 @@ module _ (count largest u w : ℕ) (live runs undo : List ℕ) where
   ws = waitingOf live (liveWidth * u) w
 
   entries-are : entriesFrom runs 0 u ≡ length (undoList us)
-  entries-are = sym (ap length (members-undo live runs undo 0 0 0 u) ∙ entries-length undo 0 (entriesFrom runs 0 u))
+  entries-are = sym (ap length (entries-all live runs undo 0 0 0 u) ∙ length-entries undo 0 (entriesFrom runs 0 u))
 
   module _ (s : sound (viewOf count largest u w live runs undo) ≡ true) where
     parts : Sound count largest us ws
@@ -306,25 +246,23 @@ module _ (count largest u w : ℕ) (live runs undo : List ℕ) where
     parts = sound-parts (viewOf count largest u w live runs undo) s
 
     pub few-uncommitted : u ≤ 16
-    few-uncommitted = omega (arith, members-length live runs undo 0 0 0 u, parts .sixteen)
+    few-uncommitted = omega (arith, length-uncommitted live runs undo 0 0 0 u, parts .sixteen)
 
     pub few-live : u + w ≤ 64
-    few-live = omega (arith, members-length live runs undo 0 0 0 u, waiting-length live (liveWidth * u) w, parts .sixtyFour)
+    few-live = omega (arith, length-uncommitted live runs undo 0 0 0 u, length-waiting live (liveWidth * u) w, parts .sixtyFour)
 
     pub few-entries : entriesFrom runs 0 u ≤ 184
     few-entries = omega (arith, entries-are, entries-most count us (parts .sixteen) (parts .each) (parts .ones))
 
     live-rows : liveWidth * (u + w) ≤ length live → take (liveWidth * (u + w)) live ≡ allRows (liveRows us ws)
     live-rows h =
-        let z : liveWidth * u ≡ 0 + liveWidth * u = omega arith in
-        numbers-take live (liveWidth * (u + w)) h ∙ sym (rows-at live 0 (u + w))
-        ∙ ap allRows (waiting-add live 0 u w ∙ (λ j. sym (members-requeued live runs undo 0 0 0 u) j ++ waitingOf live (sym z j) w))
+        numbers-take live (liveWidth * (u + w)) h ∙ sym (ap allRows (rows-live live runs undo 0 0 0 u (liveWidth * u) w (omega arith)) ∙ rows-at live 0 (u + w))
 
     run-rows : runWidth * u ≤ length runs → take (runWidth * u) (tidyRuns runs 0 u) ≡ allRuns us
     run-rows h = numbers-take (tidyRuns runs 0 u) (runWidth * u) (omega (arith, runs-length runs 0 u)) ∙ runs-at count live runs undo runs 0 0 0 u (λ x k. refl) (omega arith) (parts .each)
 
     undo-rows : 2 * entriesFrom runs 0 u ≤ length undo → take (2 * entriesFrom runs 0 u) undo ≡ flat (undoList us)
-    undo-rows h = numbers-take undo (2 * entriesFrom runs 0 u) h ∙ sym (flat-at undo 0 (entriesFrom runs 0 u)) ∙ ap flat (sym (members-undo live runs undo 0 0 0 u))
+    undo-rows h = numbers-take undo (2 * entriesFrom runs 0 u) h ∙ sym (flat-at undo 0 (entriesFrom runs 0 u)) ∙ ap flat (sym (entries-all live runs undo 0 0 0 u))
 
     module _ (hl : length live ≡ liveLength) (hr : length runs ≡ runsLength) (hu : length undo ≡ undoLength) where
       pub canonical : (n : ℕ) (runs₁ live′ runs′ undo′ : List ℕ) → n ≡ entriesFrom runs 0 u → runs₁ ≡ tidyRuns runs 0 u → live′ ≡ padded (length live) (take (liveWidth * (u + w)) live)

@@ -1,11 +1,13 @@
 -- What tidying makes of the runs, step by step: a run's words in use stay, the rest of its sixteen become zero.
-use Prim.Native.Nat.{ℕ, zero, suc, _+_, _-_, min}
-use mathlib.Core.List.{List}
+use Prim.Native.Nat.{ℕ, _+_, _-_, min}
+use mathlib.Core.List.{List, foldl}
 use lib.Dec.{eqb}
 use lib.ListN.{getD, replicate}
 use lib.Seq.{sets}
 use Rattle.model.specs.Operations.{pick}
+use Rattle.record.specs.Walk.{places}
 use Rattle.record.specs.View.{numbersFrom}
+unfoldable pub use Rattle.record.specs.View.{entriesFrom}
 use Rattle.record.specs.Widths.{runWidth}
 
 -- how many words of the run at c are in use: six and its numbers where its answer is held, four where it was sent
@@ -18,10 +20,4 @@ tidyRun runs c = sets runs (c + used runs c) (numbersFrom (replicate runWidth 0)
 
 -- with n runs tidied, the first of which starts at c
 unfoldable pub tidyRuns : List ℕ → ℕ → ℕ → List ℕ
-tidyRuns runs c zero = runs
-tidyRuns runs c (suc n) = tidyRuns (tidyRun runs c) (c + runWidth) n
-
--- how many undo entries n runs own together
-unfoldable pub entriesFrom : List ℕ → ℕ → ℕ → ℕ
-entriesFrom runs c zero = 0
-entriesFrom runs c (suc n) = getD runs (c + 3) 0 + entriesFrom runs (c + runWidth) n
+tidyRuns runs c n = foldl tidyRun runs (places c runWidth n)

@@ -7,8 +7,9 @@ use lib.ListN.{length}
 use Rattle.model.specs.Transactions.{Uncommitted, Waiting, undoList}
 use Rattle.model.specs.Refusals.{sound}
 use Rattle.operations.specs.Laid.{padded, flat}
+use Rattle.record.specs.declared.Counts.{Counts}
 use Rattle.record.specs.Words.{allRows, allRuns, liveRows}
-use Rattle.record.specs.View.{uncommittedOf, waitingOf, viewOf}
+use Rattle.record.specs.View.{uncommittedOf, waitingOf, viewBy}
 use Rattle.record.specs.Widths.{liveWidth, liveLength, runsLength, undoLength}
 
 -- rows that hold the queues, every unused place zero, and how many undo entries there are
@@ -19,7 +20,7 @@ pub record Canonical (us : List Uncommitted) (ws : List Waiting) (n : ℕ) (l r 
   pub undo : d ≡ padded undoLength (flat (undoList us))
 
 -- of a sound record: its rows with every unused place zero, and how many undo entries there are
-abbrev pub Tidied : ℕ → ℕ → ℕ → ℕ → List ℕ → List ℕ → List ℕ → ℕ → List ℕ → List ℕ → List ℕ → Type 0
-Tidied count largest u w live runs undo n live′ runs′ undo′ =
-    length live ≡ liveLength → length runs ≡ runsLength → length undo ≡ undoLength → sound (viewOf count largest u w live runs undo) ≡ true
-    → Canonical (uncommittedOf live 0 runs 0 undo 0 u) (waitingOf live (liveWidth * u) w) n live′ runs′ undo′
+abbrev pub Tidied : Counts → List ℕ → List ℕ → List ℕ → ℕ → List ℕ → List ℕ → List ℕ → Type 0
+Tidied c live runs undo n live′ runs′ undo′ =
+    length live ≡ liveLength → length runs ≡ runsLength → length undo ≡ undoLength → sound (viewBy c live runs undo) ≡ true
+    → Canonical (uncommittedOf live 0 runs 0 undo 0 (c .uncommitted)) (waitingOf live (liveWidth * c .uncommitted) (c .waiting)) n live′ runs′ undo′

@@ -4,6 +4,7 @@ ghost use mathlib.Core.Path.{_≡_};
 ghost use Prim.Native.Nat.{ℕ, _≤_};
 ghost use Rattle.tidy.specs.Runs.{used, tidyRun, tidyRuns, entriesFrom};
 ghost use Rattle.tidy.specs.Tidied.{Tidied};
+use record::Counts;
 
 // How many words of the run at a place are in use: six and its numbers where its answer is held, four where it was sent.
 pub(crate) fn used_at(runs: &[u32], at: u32) -> u32
@@ -57,29 +58,27 @@ pub(crate) fn entries_in(runs: &[u32], n: u32) -> usize
 
 // The rows of a sound record made canonical, and how many undo entries it has. Queues or entries beyond the limits are no sound record's:
 // such rows are left as they are.
-pub fn tidy(
-    uncommitted: u32,
-    waiting: u32,
-    live: &mut [u32],
-    runs: &mut [u32],
-    undo: &mut [u32],
-) -> u32
-    ensures { λ r. ⌜ ((count largest : ℕ) → Tidied count largest uncommitted waiting (now (live .entry)) (now (runs .entry)) (now (undo .entry)) r (now (live .exit)) (now (runs .exit)) (now (undo .exit))) ⌝ }
+pub fn tidy(counts: Counts, live: &mut [u32], runs: &mut [u32], undo: &mut [u32]) -> u32
+    ensures { λ r. ⌜ Tidied counts (now (live .entry)) (now (runs .entry)) (now (undo .entry)) r
+        (now (live .exit)) (now (runs .exit)) (now (undo .exit)) ⌝ }
 {
-    if model::DEPTH < uncommitted {
+    if model::DEPTH < counts.uncommitted {
         return 0;
     }
-    if model::MOST_LIVE < waiting {
+    if model::MOST_LIVE < counts.waiting {
         return 0;
     }
-    let n = entries_in(runs, uncommitted);
+    let n = entries_in(runs, counts.uncommitted);
     if (model::MOST_ENTRIES as usize) < n {
         return 0;
     }
     let entries = n as u32;
-    record::clear(live, record::LIVE_WIDTH * (uncommitted + waiting));
-    tidy_runs(runs, uncommitted);
-    record::clear(runs, record::RUN_WIDTH * uncommitted);
+    record::clear(
+        live,
+        record::LIVE_WIDTH * (counts.uncommitted + counts.waiting),
+    );
+    tidy_runs(runs, counts.uncommitted);
+    record::clear(runs, record::RUN_WIDTH * counts.uncommitted);
     record::clear(undo, record::ENTRY_WIDTH * entries);
     entries
 }

@@ -23,7 +23,7 @@ same-length-2 c = search needs
 
 returns : tie.Need-returns
 returns c = let a = c .before .before .before .before .before .before .before .before .before .before .before .before .before .before .args in
-    let r = recordBy (a .count) (a .largest) (a .uncommitted) (a .waiting) (a .live .now) (a .runs .now) (a .undo .now) in
+    let r = recordBy (a .counts) (a .live .now) (a .runs .now) (a .undo .now) in
     let d = c .before .before .before .before .call-lent .ensures in
     let e = c .before .before .before .before .before .before .before .before .before .before .event-of .ensures in (
       d .0 ∙ ap (λ (v : Event). called (a .scheme) r v (a .cells .now) (a .room .now)) e,

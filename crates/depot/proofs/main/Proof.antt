@@ -8,11 +8,8 @@ use Rattle.depot.proofs.main.Tie as tie
 use Rattle.depot.proofs.main.Reads as reads
 use Rattle.depot.proofs.main.Lts as lts
 use Rattle.depot.proofs.base.Reads as base-reads
-use Rattle.depot.proofs.fresh.Reads as fresh-reads
-use Rattle.depot.proofs.lent.Reads as lent-reads
-use Rattle.depot.proofs.odd.Reads as odd-reads
-use Rattle.depot.proofs.started.Reads as started-reads
-use Rattle.depot.proofs.unsound.Reads as unsound-reads
+use Rattle.depot.proofs.lendings.Reads as lendings-reads
+use Rattle.depot.proofs.cases.Reads as cases-reads
 use Rattle.io.proofs.write_all.Reads as write-all-reads
 
 slice-aggregate-base : tie.Need-slice-aggregate-base
@@ -24,47 +21,23 @@ slice-aggregate-base-2 c = search needs
 base-requires : tie.Need-base-requires
 base-requires c κs = search needs
 
-slice-aggregate-unsound : tie.Need-slice-aggregate-unsound
-slice-aggregate-unsound c = search needs
+slice-aggregate-cases : tie.Need-slice-aggregate-cases
+slice-aggregate-cases c = search needs
 
-slice-aggregate-unsound-2 : tie.Need-slice-aggregate-unsound-2
-slice-aggregate-unsound-2 c = search needs
+slice-aggregate-cases-2 : tie.Need-slice-aggregate-cases-2
+slice-aggregate-cases-2 c = search needs
 
-slice-aggregate-unsound-3 : tie.Need-slice-aggregate-unsound-3
-slice-aggregate-unsound-3 c = search needs
+slice-aggregate-cases-3 : tie.Need-slice-aggregate-cases-3
+slice-aggregate-cases-3 c = search needs
 
-unsound-requires : tie.Need-unsound-requires
-unsound-requires c κs = search needs
+cases-requires : tie.Need-cases-requires
+cases-requires c κs = search needs
 
-slice-aggregate-odd : tie.Need-slice-aggregate-odd
-slice-aggregate-odd c = search needs
+slice-aggregate-lendings : tie.Need-slice-aggregate-lendings
+slice-aggregate-lendings c = search needs
 
-slice-aggregate-odd-2 : tie.Need-slice-aggregate-odd-2
-slice-aggregate-odd-2 c = search needs
-
-slice-aggregate-odd-3 : tie.Need-slice-aggregate-odd-3
-slice-aggregate-odd-3 c = search needs
-
-odd-requires : tie.Need-odd-requires
-odd-requires c κs = search needs
-
-slice-aggregate-lent : tie.Need-slice-aggregate-lent
-slice-aggregate-lent c = search needs
-
-lent-requires : tie.Need-lent-requires
-lent-requires c κs = search needs
-
-slice-aggregate-started : tie.Need-slice-aggregate-started
-slice-aggregate-started c = search needs
-
-started-requires : tie.Need-started-requires
-started-requires c κs = search needs
-
-slice-aggregate-fresh : tie.Need-slice-aggregate-fresh
-slice-aggregate-fresh c = search needs
-
-fresh-requires : tie.Need-fresh-requires
-fresh-requires c κs = search needs
+lendings-requires : tie.Need-lendings-requires
+lendings-requires c κs = search needs
 
 cast-out : tie.Need-cast-out
 cast-out c = search needs
@@ -73,8 +46,9 @@ array-share-prefix-out : tie.Need-array-share-prefix-out
 array-share-prefix-out c = search needs
 
 slice-aggregate-write-all : tie.Need-slice-aggregate-write-all
-slice-aggregate-write-all c = let e : length (c .before .before .before .fresh .last .0) ≡ 4096 = c .before .before .before .fresh .kept .0 ∙ c .before .before .before .before .before .before .started .kept .0 ∙ c .before .before .before .before .before .before .before .before .before .lent .kept .0 ∙ c .before .before .before .before .before .before .before .before .before .before .before .before .before .before .odd .kept .0 ∙ c .before .before .before .before .before .before .before .before .before .before .before .before .before .before .before .before .before .before .before .before .before .unsound .kept .0 in
-    sym (length-take-le (c .before .before .before .fresh .result) (c .before .before .before .fresh .last .0) (omega (arith, e, c .before .if1 .taken)))
+slice-aggregate-write-all c = let d = c .before .before .before .lendings in
+    let e : length (d .last .0) ≡ 4096 = d .kept .0 ∙ c .before .before .before .before .before .before .before .before .cases .kept .0 in
+    sym (length-take-le (d .result) (d .last .0) (omega (arith, e, c .before .if1 .taken)))
 
 write-all-requires : tie.Need-write-all-requires
 write-all-requires c κs = search needs
@@ -92,20 +66,12 @@ main-spec =
     slice-aggregate-base
     slice-aggregate-base-2
     base-requires
-    slice-aggregate-unsound
-    slice-aggregate-unsound-2
-    slice-aggregate-unsound-3
-    unsound-requires
-    slice-aggregate-odd
-    slice-aggregate-odd-2
-    slice-aggregate-odd-3
-    odd-requires
-    slice-aggregate-lent
-    lent-requires
-    slice-aggregate-started
-    started-requires
-    slice-aggregate-fresh
-    fresh-requires
+    slice-aggregate-cases
+    slice-aggregate-cases-2
+    slice-aggregate-cases-3
+    cases-requires
+    slice-aggregate-lendings
+    lendings-requires
     cast-out
     array-share-prefix-out
     slice-aggregate-write-all

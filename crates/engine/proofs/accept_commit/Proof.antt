@@ -1,3 +1,4 @@
+use Rattle.engine.proofs.Staying.{kept-both}
 use native.Mathlib.Omega.{arith}
 use borrow.Author.Tests.{eq-eqb, ne-eqb}
 use Rattle.engine.proofs.Accepting.{fair-of, some-uncommitted, commit-begun, drained-left}
@@ -18,7 +19,7 @@ drain-requires : tie.Need-drain-requires
 drain-requires c κs = let a = c .before .before .before .before .before .before .before .before .before .before .before .before .before .before .before .before .before .before .before .args in
     let p = c .before .before .before .before .before .before .before .before .before .before .before .before .before .before .before .before .before .before .before .pre in
     let s = c .before .before .before .before .before .before .before .before .before .before .commit in
-    commit-begun (a .scheme) (a .live .now) (a .runs .now) (a .undo .now) (a .room .now) (a .cells .now) (a .c) (a .event) (p .0 .0) (p .0 .1) (ne-eqb (a .event .kind) 1 (λ z. omega (arith, p .1))) (eq-eqb (a .event .kind) 2 (p .1)) (s .last .1 .0) (s .last .1 .1 .0) (s .last .1 .1 .1 .0) (s .result) (s .ensures .1) (s .ensures .0) .small
+    commit-begun (a .scheme) (a .live .now) (a .runs .now) (a .undo .now) (a .room .now) (a .cells .now) (a .c) (a .event) (p .0 .0) (p .0 .1) (ne-eqb (a .event .kind) 1 (λ z. omega (arith, p .1))) (eq-eqb (a .event .kind) 2 (p .1)) (s .last .1 .0) (s .last .1 .1 .0) (s .last .1 .1 .1 .0) (s .result) (s .ensures .1 .0) (s .ensures .0) .small
 
 same-length : tie.Need-same-length
 same-length c = search needs
@@ -38,9 +39,9 @@ returns c = let a = c .before .before .before .before .before .before .before .b
     let s = c .before .before .before .before .before .before .before .before .before .before .before .before .before .before .before .before .before .before .before .commit in
     let d = c .before .before .before .before .before .before .before .before .drain in (
       λ e rd. drained-left (a .scheme) (a .live .now) (s .last .1 .0) (s .last .1 .1 .0) (s .last .1 .1 .1 .0) (d .last .1 .1 .0) (d .last .1 .1 .1 .0) (d .last .1 .1 .1 .1 .1 .0) (a .cells .now) (d .last .1 .1 .1 .1 .0) (s .result) (d .result) (a .room .now) _
-          (commit-begun (a .scheme) (a .live .now) (a .runs .now) (a .undo .now) (a .room .now) (a .cells .now) (a .c) (a .event) e rd (ne-eqb (a .event .kind) 1 (λ z. omega (arith, p .1))) (eq-eqb (a .event .kind) 2 (p .1)) (s .last .1 .0) (s .last .1 .1 .0) (s .last .1 .1 .1 .0) (s .result) (s .ensures .1) (s .ensures .0))
-          (d .ensures .1),
-      d .ensures .0 .live,
+          (commit-begun (a .scheme) (a .live .now) (a .runs .now) (a .undo .now) (a .room .now) (a .cells .now) (a .c) (a .event) e rd (ne-eqb (a .event .kind) 1 (λ z. omega (arith, p .1))) (eq-eqb (a .event .kind) 2 (p .1)) (s .last .1 .0) (s .last .1 .1 .0) (s .last .1 .1 .1 .0) (s .result) (s .ensures .1 .0) (s .ensures .0))
+          (d .ensures .1 .0),
+      (d .ensures .0 .live, kept-both (a .c) (s .result) (d .result) (s .ensures .1 .1) (d .ensures .1 .1)),
     )
 
 pub accept-commit-spec : {M : Type 1} → statement M

@@ -1,3 +1,5 @@
+use Rattle.engine.proofs.Staying.{kept-both, kept-at}
+use mathlib.Core.Path.{refl}
 use mathlib.Core.Path.{sym, _∙_}
 use borrow.Author.Tests.{eq-eqb}
 use Rattle.engine.proofs.Accepting.{fair-of, front-some, continue-begun, join-begun, drained-left}
@@ -17,14 +19,14 @@ is-front-requires c κs = search needs
 continue-front-requires : tie.Need-continue-front-requires
 continue-front-requires c κs = let a = c .before .before .before .before .before .before .before .before .before .before .before .before .before .before .args in
     let p = c .before .before .before .before .before .before .before .before .before .before .before .before .before .before .pre in
-    (fair-of (a .scheme) (a .live .now) (a .runs .now) (a .undo .now) (a .room .now) (a .cells .now) (a .c) (a .event) (p .0 .0) (p .0 .1), front-some (a .c .uncommitted) (a .live .now) (a .event .number) (sym (c .before .before .before .before .before .before .is-front .ensures) ∙ c .before .before .before .before .before .if1 .taken))
+    (fair-of (a .scheme) (a .live .now) (a .runs .now) (a .undo .now) (a .room .now) (a .cells .now) (a .c) (a .event) (p .0 .0) (p .0 .1), front-some (a .c .counts .uncommitted) (a .live .now) (a .event .number) (sym (c .before .before .before .before .before .before .is-front .ensures) ∙ c .before .before .before .before .before .if1 .taken))
 
 drain-requires : tie.Need-drain-requires
 drain-requires c κs = let a = c .before .before .before .before .before .before .before .before .before .before .before .before .before .before .before .before .before .before .before .before .before .before .before .before .before .before .before .before .args in
     let p = c .before .before .before .before .before .before .before .before .before .before .before .before .before .before .before .before .before .before .before .before .before .before .before .before .before .before .before .before .pre in
     let s = c .before .before .before .before .before .before .before .before .before .before .before .before .before .continue-front in
     continue-begun (a .scheme) (a .live .now) (a .runs .now) (a .undo .now) (a .room .now) (a .cells .now) (a .c) (a .event) (p .0 .0) (p .0 .1) (eq-eqb (a .event .kind) 1 (p .1)) (sym (c .before .before .before .before .before .before .before .before .before .before .before .before .before .before .before .before .before .before .before .before .is-front .ensures) ∙ c .before .before .before .before .before .before .before .before .before .before .before .before .before .before .before .before .before .before .before .if1 .taken)
-    (s .last .1 .0) (s .last .1 .1 .0) (s .last .1 .1 .1 .1 .0) (s .last .1 .1 .1 .0) (s .result) (s .ensures .1) (s .ensures .0) .small
+    (s .last .1 .0) (s .last .1 .1 .0) (s .last .1 .1 .1 .1 .0) (s .last .1 .1 .1 .0) (s .result) (s .ensures .1 .0) (s .ensures .0) .small
 
 same-length : tie.Need-same-length
 same-length c = search needs
@@ -48,9 +50,9 @@ returns c = let a = c .before .before .before .before .before .before .before .b
     let d = c .before .before .before .before .before .before .before .before .drain in (
       λ e rd. drained-left (a .scheme) (a .live .now) (s .last .1 .0) (s .last .1 .1 .0) (s .last .1 .1 .1 .1 .0) (d .last .1 .1 .0) (d .last .1 .1 .1 .0) (d .last .1 .1 .1 .1 .1 .0) (s .last .1 .1 .1 .0) (d .last .1 .1 .1 .1 .0) (s .result) (d .result) (a .room .now) _
           (continue-begun (a .scheme) (a .live .now) (a .runs .now) (a .undo .now) (a .room .now) (a .cells .now) (a .c) (a .event) e rd (eq-eqb (a .event .kind) 1 (p .1)) (sym (c .before .before .before .before .before .before .before .before .before .before .before .before .before .before .before .before .before .before .before .before .before .before .before .before .before .before .before .before .before .is-front .ensures) ∙ c .before .before .before .before .before .before .before .before .before .before .before .before .before .before .before .before .before .before .before .before .before .before .before .before .before .before .before .before .if1 .taken)
-          (s .last .1 .0) (s .last .1 .1 .0) (s .last .1 .1 .1 .1 .0) (s .last .1 .1 .1 .0) (s .result) (s .ensures .1) (s .ensures .0))
-          (d .ensures .1),
-      d .ensures .0 .live,
+          (s .last .1 .0) (s .last .1 .1 .0) (s .last .1 .1 .1 .1 .0) (s .last .1 .1 .1 .0) (s .result) (s .ensures .1 .0) (s .ensures .0))
+          (d .ensures .1 .0),
+      (d .ensures .0 .live, kept-both (a .c) (s .result) (d .result) (s .ensures .1 .1) (d .ensures .1 .1)),
     )
 
 join-waiting-requires : tie.Need-join-waiting-requires
@@ -88,8 +90,8 @@ returns-2 c = let a = c .before .before .before .before .before .before .before 
       λ e rd. drained-left (a .scheme) (s .last .0) (a .runs .now) (a .undo .now) (a .room .now) (d .last .1 .1 .0) (d .last .1 .1 .1 .0) (d .last .1 .1 .1 .1 .1 .0) (a .cells .now) (d .last .1 .1 .1 .1 .0) (s .result) (d .result) (a .room .now) _
           (join-begun (a .scheme) (a .live .now) (a .runs .now) (a .undo .now) (a .room .now) (a .cells .now) (a .c) (a .event) e rd (eq-eqb (a .event .kind) 1 (p .1)) (sym (c .before .before .before .before .before .before .before .before .before .before .before .before .before .before .before .before .before .before .before .is-front .ensures) ∙ c .before .before .before .before .before .before .before .before .before .before .before .before .before .before .before .before .before .before .if1 .left)
           (s .last .0) (s .result) (s .ensures .1) (s .ensures .0))
-          (d .ensures .1),
-      d .ensures .0 .live,
+          (d .ensures .1 .0),
+      (d .ensures .0 .live, kept-both (a .c) (s .result) (d .result) (kept-at (a .c) _ (s .result) (s .ensures .0) (refl, refl)) (d .ensures .1 .1)),
     )
 
 pub accept-fragment-spec : {M : Type 1} → statement M

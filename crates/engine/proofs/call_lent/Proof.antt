@@ -13,10 +13,10 @@ use Rattle.engine.proofs.call_lent.Tie as tie
 use Rattle.engine.proofs.call_lent.Reads as reads
 use Rattle.engine.proofs.call_lent.Lts as lts
 use Rattle.engine.proofs.accept.Reads as accept-reads
-use Rattle.engine.proofs.largest_after.Reads as largest-after-reads
 use Rattle.engine.proofs.refused.Reads as refused-reads
 use Rattle.record.proofs.shift.Reads as shift-reads
 use Rattle.tidy.proofs.tidy.Reads as tidy-reads
+use Rattle.record.proofs.Counts.accepts.Reads as accepts-reads
 
 refused-requires : tie.Need-refused-requires
 refused-requires c κs = search needs
@@ -29,20 +29,23 @@ same-length-2 c = search needs
 
 returns : tie.Need-returns
 returns c = let a = c .before .before .before .before .before .before .before .before .before .before .before .before .args in
-    refused-call (a .scheme) (recordBy (a .count) (a .largest) (a .uncommitted) (a .waiting) (a .live .now) (a .runs .now) (a .undo .now)) (a .event) (a .cells .now) (a .room .now) (c .before .refused .result) (c .before .refused .ensures (a .scheme)) (c .if1 .taken)
+    refused-call (a .scheme) (recordBy (a .counts) (a .live .now) (a .runs .now) (a .undo .now)) (a .event) (a .cells .now) (a .room .now) (c .before .refused .result) (c .before .refused .ensures (a .scheme)) (c .if1 .taken)
 
 tidy-requires : tie.Need-tidy-requires
 tidy-requires c κs = search needs
 
+accepts-requires : tie.Need-accepts-requires
+accepts-requires c κs = search needs
+
 accept-requires : tie.Need-accept-requires
-accept-requires c κs = let a = c .before .before .before .before .before .before .before .before .before .before .before .before .before .before .before .before .before .before .before .before .before .args in
-    let r = recordBy (a .count) (a .largest) (a .uncommitted) (a .waiting) (a .live .now) (a .runs .now) (a .undo .now) in
-    let t = c .before .before .before .before .before .tidy in
-    let z : refusal (view r) (callOf (a .scheme) (a .event) (a .cells .now) (a .room .now)) ≡ 0 = sym (c .before .before .before .before .before .before .before .before .before .before .refused .ensures (a .scheme)) ∙ search needs in (
+accept-requires c κs = let a = c .before .before .before .before .before .before .before .before .before .before .before .before .before .before .before .before .before .before .before .before .before .before .args in
+    let r = recordBy (a .counts) (a .live .now) (a .runs .now) (a .undo .now) in
+    let t = c .before .before .before .before .before .before .tidy in
+    let z : refusal (view r) (callOf (a .scheme) (a .event) (a .cells .now) (a .room .now)) ≡ 0 = sym (c .before .before .before .before .before .before .before .before .before .before .before .refused .ensures (a .scheme)) ∙ search needs in (
       view r,
-      ready (a .scheme) r (a .event) (a .cells .now) (a .room .now) (t .result) (t .last .1 .1 .0) (t .last .1 .1 .1 .0) (t .last .1 .1 .1 .1 .0) z
-          (t .ensures (a .count) (a .largest) (search needs) (search needs) (search needs) (not-false (sound (view r)) (passed (view r) (callOf (a .scheme) (a .event) (a .cells .now) (a .room .now)) z .one)))
-          (search (unmapped, c .before .before .before .before .before .before .before .before .before .before .before .before .before .before .before .before .before .before .before .before .before .good .1 .1 .1 .1 .1 .1 .1 .1 .1 .0, needs)),
+      ready (a .scheme) r (a .event) (a .cells .now) (a .room .now) (t .result) _ (c .before .before .before .before .before .accepts .result) (t .last .1 .0) (t .last .1 .1 .0) (t .last .1 .1 .1 .0) z
+          (t .ensures (search needs) (search needs) (search needs) (not-false (sound (view r)) (passed (view r) (callOf (a .scheme) (a .event) (a .cells .now) (a .room .now)) z .one)))
+          (search (unmapped, c .before .before .before .before .before .before .before .before .before .before .before .before .before .before .before .before .before .before .before .before .before .before .good .1 .1 .1 .1 .1 .1 .0 .1)) (c .before .before .before .before .before .accepts .ensures),
     )
 
 mul-shift : tie.Need-mul-shift
@@ -60,9 +63,6 @@ mul-shift-2 c = search needs
 shift-requires : tie.Need-shift-requires
 shift-requires c κs = search needs
 
-largest-after-requires : tie.Need-largest-after-requires
-largest-after-requires c κs = search needs
-
 same-length-3 : tie.Need-same-length-3
 same-length-3 c = search needs
 
@@ -71,12 +71,12 @@ same-length-4 c = search needs
 
 returns-2 : tie.Need-returns-2
 unfolding accept-requires
-returns-2 c = let a = c .before .before .before .before .before .before .before .before .before .before .before .before .before .before .before .before .before .before .before .before .before .before .before .before .before .before .before .before .before .before .before .before .args in
-    let r = recordBy (a .count) (a .largest) (a .uncommitted) (a .waiting) (a .live .now) (a .runs .now) (a .undo .now) in
+returns-2 c = let a = c .before .before .before .before .before .before .before .before .before .before .before .before .before .before .before .before .before .before .before .before .before .before .before .before .before .before .before .before .before .before .before .before .before .args in
+    let r = recordBy (a .counts) (a .live .now) (a .runs .now) (a .undo .now) in
     let d = c .before .before .before .before .before .before .before .before .before .before .accept in
     let ok = accept-requires (c .before .before .before .before .before .before .before .before .before .before .before) (d .lifetimes) in
-    accepted-call (a .scheme) r (a .event) (a .cells .now) (a .room .now) (d .last .1 .0) (c .before .shift .last .0) (d .last .1 .1 .0) (d .last .1 .1 .1 .0) (d .last .1 .1 .1 .1 .1 .0) (d .last .1 .1 .1 .1 .0) (d .result) (c .largest-after .result)
-    (sym (c .before .before .before .before .before .before .before .before .before .before .before .before .before .before .before .before .before .before .before .before .before .refused .ensures (a .scheme)) ∙ c .before .before .before .before .before .before .before .before .before .before .before .before .before .before .before .before .before .before .before .before .if1 .left) (d .ensures .0 (view r) (ok .1)) (d .ensures .1) (c .before .shift .ensures) (c .largest-after .ensures)
+    accepted-call (a .scheme) r (a .event) (a .cells .now) (a .room .now) (d .last .1 .0) (c .before .shift .last .0) (d .last .1 .1 .0) (d .last .1 .1 .1 .0) (d .last .1 .1 .1 .1 .1 .0) (d .last .1 .1 .1 .1 .0) (c .before .before .before .before .before .before .before .before .before .before .before .before .before .before .before .before .accepts .result) (d .result)
+    (sym (c .before .before .before .before .before .before .before .before .before .before .before .before .before .before .before .before .before .before .before .before .before .before .refused .ensures (a .scheme)) ∙ c .before .before .before .before .before .before .before .before .before .before .before .before .before .before .before .before .before .before .before .before .before .if1 .left) (d .ensures .0 (view r) (ok .1)) (d .ensures .1 .0) (c .before .shift .ensures) (c .before .before .before .before .before .before .before .before .before .before .before .before .before .before .before .before .accepts .ensures) (d .ensures .1 .1 .0) (d .ensures .1 .1 .1)
 
 pub call-lent-spec : {M : Type 1} → statement M
 call-lent-spec =
@@ -87,13 +87,13 @@ call-lent-spec =
     same-length-2
     returns
     tidy-requires
+    accepts-requires
     accept-requires
     mul-shift
     add-shift
     add-shift-2
     mul-shift-2
     shift-requires
-    largest-after-requires
     same-length-3
     same-length-4
     returns-2)

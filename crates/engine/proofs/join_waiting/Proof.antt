@@ -9,7 +9,7 @@ use Rattle.engine.proofs.join_waiting.Statement.{statement}
 use Rattle.engine.proofs.join_waiting.Tie as tie
 use Rattle.engine.proofs.join_waiting.Reads as reads
 use Rattle.engine.proofs.join_waiting.Lts as lts
-use Rattle.engine.proofs.counts.Counts.waits.Reads as waits-reads
+use Rattle.engine.proofs.course.Course.waits.Reads as waits-reads
 use Rattle.record.proofs.lay.Reads as lay-reads
 use Rattle.record.proofs.row_words.Reads as row-words-reads
 use Rattle.record.specs.Widths.{liveWidth}
@@ -42,7 +42,7 @@ returns : tie.Need-returns
 returns c = let a = c .before .before .before .before .before .before .before .before .before .before .args in
     let w = c .before .before .before .before .before .before .before .before .row-words .result in
     let e : length w ≡ liveWidth = search (c .before .before .before .before .before .before .before .before .row-words, needs) in
-    (c .waits .ensures, c .before .before .before .lay .ensures ∙ ap (sets (a .live .now) (liveWidth * (a .c .first + a .c .uncommitted + a .c .waiting))) (laid-whole w liveWidth e ∙ c .before .before .before .before .before .before .before .before .row-words .ensures))
+    (c .waits .ensures, c .before .before .before .lay .ensures ∙ ap (sets (a .live .now) (liveWidth * (a .c .first + a .c .counts .uncommitted + a .c .counts .waiting))) (laid-whole w liveWidth e ∙ c .before .before .before .before .before .before .before .before .row-words .ensures))
 
 pub join-waiting-spec : {M : Type 1} → statement M
 join-waiting-spec =

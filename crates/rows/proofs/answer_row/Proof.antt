@@ -3,7 +3,7 @@ use mathlib.Core.Path.{_≡_, ap}
 use mathlib.Core.List.{List}
 use lib.ListN.{length}
 use Rattle.rows.specs.Rows.{answerRow, runRow}
-use Rattle.rows.proofs.Reading.{eight-numbers}
+use Rattle.record.proofs.Rows.{eight}
 use borrow.Author.Needs.{needs}
 use Rattle.rows.proofs.answer_row.Statement.{statement}
 use Rattle.rows.proofs.answer_row.Tie as tie
@@ -35,7 +35,7 @@ array-read-t30 : tie.Need-array-read-t30
 array-read-t30 c = search needs
 
 returns : tie.Need-returns
-returns c = let e : length (c .args .t5) ≡ 8 = search needs in ap {B = List ℕ} (λ (x : List ℕ). answerRow (c .args .number) (c .args .dependence) (c .args .place) (c .args .count) x) (eight-numbers (c .args .t5) e)
+returns c = let e : length (c .args .t5) ≡ 8 = search needs in ap {B = List ℕ} (λ (x : List ℕ). answerRow (c .args .number) (c .args .dependence) (c .args .place) (c .args .count) x) (eight 0 (c .args .t5) e)
 
 pub answer-row-spec : {M : Type 1} → statement M
 answer-row-spec =

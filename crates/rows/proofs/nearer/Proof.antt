@@ -1,26 +1,22 @@
-use Rattle.rows.proofs.Reading.{near-multi, near-single}
 use borrow.Author.Needs.{needs}
 use Rattle.rows.proofs.nearer.Statement.{statement}
 use Rattle.rows.proofs.nearer.Tie as tie
 use Rattle.rows.proofs.nearer.Reads as reads
 use Rattle.rows.proofs.nearer.Lts as lts
 use Rattle.operations.proofs.number_at.Reads as number-at-reads
+use Rattle.rows.proofs.multi_at.Reads as multi-at-reads
 
-add-number-at : tie.Need-add-number-at
-add-number-at c = search needs
+multi-at-requires : tie.Need-multi-at-requires
+multi-at-requires c κs = search needs
 
 number-at-requires : tie.Need-number-at-requires
 number-at-requires c κs = search needs
 
-number-at-requires-2 : tie.Need-number-at-requires-2
-number-at-requires-2 c κs = search needs
-
 returns : tie.Need-returns
-returns c = near-multi (c .before .before .before .before .args .live .now) (c .before .before .before .before .args .at) (c .before .before .before .before .args .d) (c .before .before .number-at .result) (c .before .before .number-at .ensures) (c .before .if1 .taken) _ (c .number-at2 .ensures)
+returns c = rw (← (c .before .before .multi-at .ensures), c .before .if1 .taken, ← (c .number-at .ensures))
 
 returns-2 : tie.Need-returns-2
-returns-2 c = near-single (c .before .before .before .args .live .now) (c .before .before .before .args .at) (c .before .before .before .args .d) (c .before .number-at .result) (c .before .number-at .ensures) (c .if1 .left)
+returns-2 c = rw (← (c .before .multi-at .ensures), c .if1 .left)
 
 pub nearer-spec : {M : Type 1} → statement M
-nearer-spec =
-    tie.close (tie.spec add-number-at number-at-requires number-at-requires-2 returns returns-2)
+nearer-spec = tie.close (tie.spec multi-at-requires number-at-requires returns returns-2)

@@ -3,7 +3,7 @@ use mathlib.Core.Path.{_≡_, ap}
 use mathlib.Core.List.{List}
 use lib.ListN.{length}
 use Rattle.rows.specs.Rows.{answerRow, runRow}
-use Rattle.rows.proofs.Reading.{eight-numbers}
+use Rattle.record.proofs.Rows.{eight}
 use borrow.Author.Needs.{needs}
 use Rattle.rows.proofs.run_row.Statement.{statement}
 use Rattle.rows.proofs.run_row.Tie as tie
@@ -35,7 +35,7 @@ array-read-t32 : tie.Need-array-read-t32
 array-read-t32 c = search needs
 
 returns : tie.Need-returns
-returns c = let e : length (c .args .t7) ≡ 8 = search needs in ap {B = List ℕ} (λ (x : List ℕ). runRow (c .args .ran) (c .args .state) (c .args .reply) (c .args .entries) (c .args .place) (c .args .count) x) (eight-numbers (c .args .t7) e)
+returns c = let e : length (c .args .t7) ≡ 8 = search needs in ap {B = List ℕ} (λ (x : List ℕ). runRow (c .args .ran) (c .args .state) (c .args .reply) (c .args .entries) (c .args .place) (c .args .count) x) (eight 0 (c .args .t7) e)
 
 pub run-row-spec : {M : Type 1} → statement M
 run-row-spec =

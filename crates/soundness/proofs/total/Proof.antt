@@ -1,8 +1,8 @@
 use Prim.Native.Nat.{_+_, _*_, _≤_}
 use native.Mathlib.Omega.{arith}
-use mathlib.Core.Path.{_≡_}
+use mathlib.Core.Path.{_≡_, refl}
 use Rattle.soundness.specs.Groups.{totalFrom}
-use Rattle.soundness.proofs.Turns.{total-on, total-end}
+use Rattle.record.proofs.Queues.{entries-on, entries-end}
 use borrow.Author.Needs.{needs}
 use Rattle.soundness.proofs.total.Statement.{statement}
 use Rattle.soundness.proofs.total.Tie as tie
@@ -44,12 +44,12 @@ loop-less c = search needs
 loop-again : tie.Need-loop-again Inv-loop μ-loop
 loop-again c = let a = c .before .before .before .before .args in
     let l = c .before .before .loop in
-    (omega arith, l .inv .1, omega arith, total-on (a .runs .now) (l .c) (l .left) (l .sum) _ (l .inv .3) (c .before .loop-test .taken) (c .number-at .result) (c .number-at .ensures))
+    (omega arith, l .inv .1, omega arith, entries-on (a .runs .now) (l .c) (l .left) (l .sum) _ (l .inv .3) _ _ _ refl (omega arith) (c .number-at .ensures))
 
 returns : tie.Need-returns Inv-loop μ-loop
 returns c = let a = c .before .before .before .args in
     let l = c .before .loop in
-    (total-end (a .runs .now) (l .c) (l .left) (l .sum) _ (l .inv .3) (c .loop-test .left), omega arith)
+    (entries-end (a .runs .now) (l .c) (l .left) (l .sum) _ (l .inv .3) (omega arith), omega arith)
 
 pub total-spec : {M : Type 1} → statement M
 total-spec =

@@ -1,6 +1,7 @@
-use Rattle.tidy.proofs.Loops.{sum-start, sum-turn, sum-end}
+use Rattle.record.proofs.Queues.{entries-on, entries-end}
 use Prim.Native.Nat.{_+_, _*_, _-_, _≤_}
 use native.Mathlib.Omega.{arith}
+use native.Mathlib.Nat.{sub-zero}
 use mathlib.Core.Path.{_≡_}
 use Rattle.tidy.specs.Runs.{entriesFrom}
 use borrow.Author.Needs.{needs}
@@ -18,7 +19,7 @@ abbrev μ-loop : tie.MeasureT-loop
 μ-loop runs n sum₀ i₀ sum i = n - i
 
 loop-holds : tie.Need-loop-holds Inv-loop μ-loop
-loop-holds c = (search needs, search needs, sum-start (c .before .args .runs .now) (c .before .args .n))
+loop-holds c = (search needs, search needs, rw sub-zero (omega arith))
 
 mul-number-at : tie.Need-mul-number-at Inv-loop μ-loop
 mul-number-at c = search needs
@@ -42,10 +43,10 @@ loop-less : tie.Need-loop-less Inv-loop μ-loop
 loop-less c = search needs
 
 loop-again : tie.Need-loop-again Inv-loop μ-loop
-loop-again c = let l = c .before .before .loop in (omega arith, omega arith, sum-turn (c .before .before .before .before .args .runs .now) (c .before .before .before .before .args .n) (l .i) (l .sum) (c .number-at .result) _ (c .before .loop-test .taken) (c .number-at .ensures) (l .inv .2))
+loop-again c = let l = c .before .before .loop in (omega arith, omega arith, entries-on (c .before .before .before .before .args .runs .now) (runWidth * l .i) _ (l .sum) _ (l .inv .2) _ _ _ (omega arith) (omega arith) (c .number-at .ensures))
 
 returns : tie.Need-returns Inv-loop μ-loop
-returns c = let l = c .before .loop in sum-end (c .before .before .before .args .runs .now) (c .before .before .before .args .n) (l .i) (l .sum) _ (c .loop-test .left) (l .inv .2)
+returns c = let l = c .before .loop in entries-end (c .before .before .before .args .runs .now) (runWidth * l .i) _ (l .sum) _ (l .inv .2) (omega arith)
 
 pub entries-in-spec : {M : Type 1} → statement M
 entries-in-spec =

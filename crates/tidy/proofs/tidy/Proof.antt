@@ -10,10 +10,10 @@ use Rattle.tidy.proofs.entries_in.Reads as entries-in-reads
 use Rattle.tidy.proofs.tidy_runs.Reads as tidy-runs-reads
 
 returns : tie.Need-returns
-returns c = λ ct top hl hr hu s. let a = c .before .before .before .before .args in absurd (omega (arith, few-uncommitted ct top (a .uncommitted) (a .waiting) (a .live .now) (a .runs .now) (a .undo .now) s, c .if1 .taken))
+returns c = λ hl hr hu s. let a = c .before .before .before .before .before .args in absurd (omega (arith, few-uncommitted (a .counts .cells) (a .counts .largest) (a .counts .uncommitted) (a .counts .waiting) (a .live .now) (a .runs .now) (a .undo .now) s, c .if1 .taken))
 
 returns-2 : tie.Need-returns-2
-returns-2 c = λ ct top hl hr hu s. let a = c .before .before .before .before .before .args in absurd (omega (arith, few-live ct top (a .uncommitted) (a .waiting) (a .live .now) (a .runs .now) (a .undo .now) s, c .if2 .taken))
+returns-2 c = λ hl hr hu s. let a = c .before .before .before .before .before .before .before .args in absurd (omega (arith, few-live (a .counts .cells) (a .counts .largest) (a .counts .uncommitted) (a .counts .waiting) (a .live .now) (a .runs .now) (a .undo .now) s, c .if2 .taken))
 
 entries-in-requires : tie.Need-entries-in-requires
 entries-in-requires c κs = search needs
@@ -25,7 +25,7 @@ same-length : tie.Need-same-length
 same-length c = search needs
 
 returns-3 : tie.Need-returns-3
-returns-3 c = λ ct top hl hr hu s. let a = c .before .before .before .before .before .before .before .before .args in absurd (omega (arith, few-entries ct top (a .uncommitted) (a .waiting) (a .live .now) (a .runs .now) (a .undo .now) s, c .if3 .taken, c .before .entries-in .ensures))
+returns-3 c = λ hl hr hu s. let a = c .before .before .before .before .before .before .before .before .before .before .args in absurd (omega (arith, few-entries (a .counts .cells) (a .counts .largest) (a .counts .uncommitted) (a .counts .waiting) (a .live .now) (a .runs .now) (a .undo .now) s, c .if3 .taken, c .before .entries-in .ensures))
 
 cast-entries : tie.Need-cast-entries
 cast-entries c = search needs
@@ -64,9 +64,9 @@ same-length-4 : tie.Need-same-length-4
 same-length-4 c = search needs
 
 returns-4 : tie.Need-returns-4
-returns-4 c = λ ct top hl hr hu s. let a = c .before .before .before .before .before .before .before .before .before .before .before .before .before .before .before .before .before .before .before .before .before .before .before .before .args in
-    canonical ct top (a .uncommitted) (a .waiting) (a .live .now) (a .runs .now) (a .undo .now) s hl hr hu (c .before .before .before .before .before .before .before .before .before .before .before .before .before .before .before .before .before .entries-in .result) (c .before .before .before .before .before .before .before .before .before .before .tidy-runs .last .0) (c .before .before .before .before .before .before .before .before .before .before .before .before .before .before .clear .last .0) (c .before .before .before .before .before .before .clear2 .last .0) (c .before .before .clear3 .last .0)
-    (c .before .before .before .before .before .before .before .before .before .before .before .before .before .before .before .before .before .entries-in .ensures) (c .before .before .before .before .before .before .before .before .before .before .tidy-runs .ensures) (c .before .before .before .before .before .before .before .before .before .before .before .before .before .before .clear .ensures) (c .before .before .before .before .before .before .clear2 .ensures) (c .before .before .clear3 .ensures)
+returns-4 c = λ hl hr hu s. let a = c .before .before .before .before .before .before .before .before .before .before .before .before .before .before .before .before .before .before .before .before .before .before .before .before .before .before .before .before .args in
+    canonical (a .counts .cells) (a .counts .largest) (a .counts .uncommitted) (a .counts .waiting) (a .live .now) (a .runs .now) (a .undo .now) s hl hr hu (c .before .before .before .before .before .before .before .before .before .before .before .before .before .before .before .before .before .before .before .entries-in .result) (c .before .before .before .before .before .before .before .before .before .before .before .tidy-runs .last .0) (c .before .before .before .before .before .before .before .before .before .before .before .before .before .before .before .clear .last .0) (c .before .before .before .before .before .before .clear2 .last .0) (c .before .before .clear3 .last .0)
+    (c .before .before .before .before .before .before .before .before .before .before .before .before .before .before .before .before .before .before .before .entries-in .ensures) (c .before .before .before .before .before .before .before .before .before .before .before .tidy-runs .ensures) (c .before .before .before .before .before .before .before .before .before .before .before .before .before .before .before .clear .ensures) (c .before .before .before .before .before .before .clear2 .ensures) (c .before .before .clear3 .ensures)
 
 pub tidy-spec : {M : Type 1} → statement M
 tidy-spec =

@@ -1,6 +1,7 @@
-use Rattle.tidy.proofs.Loops.{runs-start, runs-turn, runs-end}
+use Rattle.tidy.proofs.Loops.{runs-turn, runs-end}
 use Prim.Native.Nat.{_*_, _-_, _≤_}
 use native.Mathlib.Omega.{arith}
+use native.Mathlib.Nat.{sub-zero}
 use mathlib.Core.Path.{_≡_, refl, _∙_}
 use lib.ListN.{length}
 use Rattle.tidy.specs.Runs.{tidyRuns}
@@ -19,7 +20,7 @@ abbrev μ-loop : tie.MeasureT-loop
 μ-loop runs₀ n i₀ runs i = n - i
 
 loop-holds : tie.Need-loop-holds Inv-loop μ-loop
-loop-holds c = (search needs, refl, runs-start (c .before .args .runs .now) (c .before .args .n))
+loop-holds c = (search needs, refl, rw sub-zero)
 
 mul-tidy-run : tie.Need-mul-tidy-run Inv-loop μ-loop
 mul-tidy-run c = search needs
@@ -34,7 +35,7 @@ loop-less : tie.Need-loop-less Inv-loop μ-loop
 loop-less c = search needs
 
 loop-again : tie.Need-loop-again Inv-loop μ-loop
-loop-again c = let l = c .before .before .before .before .before .loop in (omega arith, c .before .before .tidy-run .kept .0 ∙ l .inv .1, runs-turn (l .runs) (c .before .before .tidy-run .last .0) _ (c .before .before .before .before .before .before .before .args .n) (l .i) (c .before .before .before .before .loop-test .taken) (c .before .before .tidy-run .ensures) (l .inv .2))
+loop-again c = let l = c .before .before .before .before .before .loop in (omega arith, c .before .before .tidy-run .kept .0 ∙ l .inv .1, runs-turn (l .runs) _ (c .before .before .before .before .before .before .before .args .n) (l .i) (c .before .before .tidy-run .last .0) (c .before .before .before .before .loop-test .taken) (c .before .before .tidy-run .ensures) (l .inv .2))
 
 same-length : tie.Need-same-length Inv-loop μ-loop
 same-length c = c .before .loop .inv .1

@@ -1,16 +1,20 @@
+use Rattle.engine.specs.Work.{requeuedAll}
+use mathlib.Core.Path.{ap, refl, _∙_}
+use Rattle.engine.proofs.Staying.{kept-at}
 use native.Mathlib.Omega.{arith}
 use Prim.Native.Nat.{ℕ, _≤_, _+_}
 use mathlib.Core.Path.{refl, sym, subst}
-use Rattle.engine.specs.declared.counts.Counts.{Counts}
+use Rattle.engine.specs.declared.course.Course.{Course}
 use Rattle.engine.proofs.Deciding.{aborted}
 use borrow.Author.Needs.{needs}
 use Rattle.engine.proofs.abort.abort.Statement.{statement}
 use Rattle.engine.proofs.abort.abort.Tie as tie
 use Rattle.engine.proofs.abort.abort.Reads as reads
 use Rattle.engine.proofs.abort.abort.Lts as lts
-use Rattle.engine.proofs.counts.Counts.requeues.Reads as requeues-reads
+use Rattle.engine.proofs.course.Course.requeues.Reads as requeues-reads
 use Rattle.operations.proofs.undo.Reads as undo-reads
 use Rattle.record.proofs.shift.Reads as shift-reads
+use Rattle.engine.proofs.course.Course.leaves.Reads as leaves-reads
 
 undo-requires : tie.Need-undo-requires
 undo-requires c κs = search needs
@@ -33,8 +37,11 @@ mul-shift-4 c = search needs
 shift-requires-2 : tie.Need-shift-requires-2
 shift-requires-2 c κs = search needs
 
+leaves-requires : tie.Need-leaves-requires
+leaves-requires c κs = (c .before .before .before .before .before .before .before .before .before .before .before .before .before .before .before .before .before .before .before .before .pre .1, omega (arith, c .before .before .before .before .before .before .before .before .before .before .before .before .before .before .before .before .before .before .before .before .pre .0 .live), omega arith)
+
 requeues-requires : tie.Need-requeues-requires
-requeues-requires c κs = search needs
+requeues-requires c κs = omega (arith, ap (λ (x : Course). x .counts .uncommitted) (c .leaves .ensures), ap (λ (x : Course). x .counts .waiting) (c .leaves .ensures), c .before .before .before .before .before .before .before .before .before .before .before .before .before .before .before .before .before .before .before .before .before .pre .0 .live)
 
 same-length : tie.Need-same-length
 same-length c = search needs
@@ -43,13 +50,14 @@ same-length-2 : tie.Need-same-length-2
 same-length-2 c = search needs
 
 same-length-3 : tie.Need-same-length-3
-same-length-3 c = search needs
+same-length-3 c = c .before .before .before .before .before .before .before .before .before .before .before .before .before .before .before .before .undo .kept .0
 
 returns : tie.Need-returns
-returns c = let a = c .before .before .before .before .before .before .before .before .before .before .before .before .before .before .before .before .before .before .before .before .before .args in
-    let p = c .before .before .before .before .before .before .before .before .before .before .before .before .before .before .before .before .before .before .before .before .before .pre in (
-      subst (λ (d : Counts). d .first + d .uncommitted + d .waiting ≤ 64) (sym (c .requeues .ensures)) (omega (arith, p .0 .live, p .1)),
-      aborted (a .runs .now) (a .undo .now) (c .before .before .before .before .before .before .before .before .before .shift .last .0) (c .before .before .before .shift2 .last .0) (a .cells .now) (c .before .before .before .before .before .before .before .before .before .before .before .before .before .before .before .undo .last .0) (a .c) _ (p .0) (c .before .before .before .before .before .before .before .before .before .before .before .before .before .before .before .undo .ensures) (c .before .before .before .before .before .before .before .before .before .shift .ensures) (c .before .before .before .shift2 .ensures) (c .requeues .ensures),
+returns c = let a = c .before .before .before .before .before .before .before .before .before .before .before .before .before .before .before .before .before .before .before .before .before .before .args in
+    let p = c .before .before .before .before .before .before .before .before .before .before .before .before .before .before .before .before .before .before .before .before .before .before .pre in
+    let gone = c .requeues .ensures ∙ ap {B = Course} requeuedAll (c .before .leaves .ensures) in (
+      subst (λ (d : Course). d .first + d .counts .uncommitted + d .counts .waiting ≤ 64) (sym gone) (omega (arith, p .0 .live, p .1)),
+      (aborted (a .runs .now) (a .undo .now) (c .before .before .before .before .before .before .before .before .before .before .shift .last .0) (c .before .before .before .before .shift2 .last .0) (a .cells .now) (c .before .before .before .before .before .before .before .before .before .before .before .before .before .before .before .before .undo .last .0) (a .c) _ (p .0) (c .before .before .before .before .before .before .before .before .before .before .before .before .before .before .before .before .undo .ensures) (c .before .before .before .before .before .before .before .before .before .before .shift .ensures) (c .before .before .before .before .shift2 .ensures) gone, kept-at (a .c) _ _ gone (refl, refl)),
     )
 
 pub abort-spec : {M : Type 1} → statement M
@@ -63,6 +71,7 @@ abort-spec =
     mul-shift-3
     mul-shift-4
     shift-requires-2
+    leaves-requires
     requeues-requires
     same-length
     same-length-2

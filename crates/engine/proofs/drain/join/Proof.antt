@@ -10,7 +10,7 @@ use Rattle.engine.proofs.drain.join.Statement.{statement}
 use Rattle.engine.proofs.drain.join.Tie as tie
 use Rattle.engine.proofs.drain.join.Reads as reads
 use Rattle.engine.proofs.drain.join.Lts as lts
-use Rattle.engine.proofs.counts.Counts.joins.Reads as joins-reads
+use Rattle.engine.proofs.course.Course.joins.Reads as joins-reads
 use Rattle.rows.proofs.begun_row.Reads as begun-row-reads
 use Rattle.record.proofs.lay.Reads as lay-reads
 use Rattle.record.specs.Widths.{runWidth}
@@ -31,7 +31,7 @@ mul-lay-2 : tie.Need-mul-lay-2
 mul-lay-2 c = search needs
 
 slice-aggregate-lay-2 : tie.Need-slice-aggregate-lay-2
-slice-aggregate-lay-2 c = search needs
+slice-aggregate-lay-2 c = search (c .before .before .before .before .before .before .before .before .before .before .before .before .before .good .1 .1 .1 .1 .1 .0, needs)
 
 mul-lay-3 : tie.Need-mul-lay-3
 mul-lay-3 c = search needs
@@ -52,7 +52,7 @@ returns : tie.Need-returns
 returns c = let a = c .before .before .before .before .before .before .before .before .before .before .before .before .before .before .before .before .before .before .args in
     let w = c .before .before .before .before .before .before .before .before .before .before .before .before .before .before .before .begun-row .result in
     let e : length w ≡ runWidth = search (c .before .before .before .before .before .before .before .before .before .before .before .before .before .before .before .begun-row, needs) in
-    (c .joins .ensures, (c .before .before .before .before .before .before .before .before .before .before .lay .ensures ∙ ap (λ (x : List ℕ). sets (a .runs .now) (runWidth * a .c .uncommitted) x) (laid-whole w runWidth e ∙ c .before .before .before .before .before .before .before .before .before .before .before .before .before .before .before .begun-row .ensures), c .before .before .before .lay2 .ensures))
+    (c .joins .ensures, (c .before .before .before .before .before .before .before .before .before .before .lay .ensures ∙ ap (λ (x : List ℕ). sets (a .runs .now) (runWidth * a .c .counts .uncommitted) x) (laid-whole w runWidth e ∙ c .before .before .before .before .before .before .before .before .before .before .before .before .before .before .before .begun-row .ensures), c .before .before .before .lay2 .ensures))
 
 pub join-spec : {M : Type 1} → statement M
 join-spec =

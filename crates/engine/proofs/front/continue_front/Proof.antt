@@ -67,8 +67,8 @@ lay-requires c κs = search needs
 put-answer-requires : tie.Need-put-answer-requires
 put-answer-requires c κs = omega (arith, c .before .before .before .before .before .before .before .before .before .before .before .before .before .before .before .before .before .before .before .before .before .before .before .before .before .before .before .before .pre .0 .answers)
 
-add-t27 : tie.Need-add-t27
-add-t27 c = omega (arith, c .before .before .before .before .before .before .before .before .before .before .before .before .before .before .before .before .before .before .before .before .before .before .before .before .before .before .before .before .before .before .before .before .pre .0 .answers)
+add-t28 : tie.Need-add-t28
+add-t28 c = omega (arith, c .before .before .before .before .before .before .before .before .before .before .before .before .before .before .before .before .before .before .before .before .before .before .before .before .before .before .before .before .before .before .before .before .before .pre .0 .answers)
 
 same-length : tie.Need-same-length
 same-length c = search needs
@@ -84,16 +84,19 @@ same-length-4 c = search needs
 
 returns : tie.Need-returns
 returns c =
-    let a = c .before .before .before .before .before .before .before .before .before .before .before .before .before .before .before .before .before .before .before .before .before .before .before .before .before .before .before .before .before .before .before .before .args in
-    let p = c .before .before .before .before .before .before .before .before .before .before .before .before .before .before .before .before .before .before .before .before .before .before .before .before .before .before .before .before .before .before .before .before .pre in
-    let r = c .before .before .before .before .before .before .before .before .before .before .before .before .before .before .before .before .before .before .before .before .before .before .continue-fragment in
-    let w = c .before .before .before .before .before .before .before .before .before .before .run-row .result in
-    let l : length w ≡ runWidth = search (c .before .before .before .before .before .before .before .before .before .before .run-row, needs) in (
-      omega (arith, c .before .before .before .before .before .before .before .before .before .before .before .before .before .before .before .before .before .before .before .before .before .before .before .before .before .before .before .before .before .before .before .before .pre .0 .live),
-      continued (a .live .now) (a .runs .now) (a .undo .now) (a .room .now) (c .before .before .before .before .before .before .before .lay .last .0) (c .before .before .before .before .before .before .before .before .before .before .before .before .before .note-entries .last .0) (c .before .before .before .put-answer .last .0) (a .cells .now) (r .last .0) (a .c) _ (a .f)
-          (c .before .before .before .before .before .before .before .before .before .before .before .before .before .before .before .before .before .before .before .before .before .before .before .before .before .number-at .result) (c .before .before .before .before .before .before .before .before .before .before .before .before .before .before .before .before .before .before .number-at2 .result) (c .before .before .before .before .before .before .before .before .before .before .before .before .before .before .before .before .before .least .result) (c .before .before .before .before .before .before .before .before .before .before .before .before .before .before .before .state-after .result) (c .before .before .before .before .before .before .before .before .before .before .before .before .before .note-entries .result) (c .before .before .before .before .before .before .before .before .before .before .before .before .before .before .before .before .is-last .result) (r .result) w
-          (p .0) (p .1) (c .before .before .before .before .before .before .before .before .before .before .before .before .before .before .before .before .before .before .before .before .before .before .before .before .before .number-at .ensures) (r .ensures .0) (r .ensures .1) (c .before .before .before .before .before .before .before .before .before .before .before .before .before .before .before .before .before .before .number-at2 .ensures) (c .before .before .before .before .before .before .before .before .before .before .before .before .before .before .before .before .before .least .ensures) (c .before .before .before .before .before .before .before .before .before .before .before .before .before .before .before .before .is-last .ensures) (c .before .before .before .before .before .before .before .before .before .before .before .before .before .before .before .state-after .ensures) (c .before .before .before .before .before .before .before .before .before .before .before .before .before .note-entries .ensures .0)
-          (c .before .before .before .before .before .before .before .before .before .before .before .before .before .note-entries .ensures .1) (c .before .before .before .before .before .before .before .before .before .before .run-row .ensures) (c .before .before .before .before .before .before .before .lay .ensures ∙ ap (sets (a .runs .now) 0) (laid-whole w runWidth l)) (c .before .before .before .put-answer .ensures) refl,
+    let a = c .before .before .before .before .before .before .before .before .before .before .before .before .before .before .before .before .before .before .before .before .before .before .before .before .before .before .before .before .before .before .before .before .before .args in
+    let p = c .before .before .before .before .before .before .before .before .before .before .before .before .before .before .before .before .before .before .before .before .before .before .before .before .before .before .before .before .before .before .before .before .before .pre in
+    let r = c .before .before .before .before .before .before .before .before .before .before .before .before .before .before .before .before .before .before .before .before .before .before .before .continue-fragment in
+    let w = c .before .before .before .before .before .before .before .before .before .before .before .run-row .result in
+    let l : length w ≡ runWidth = search (c .before .before .before .before .before .before .before .before .before .before .before .run-row, needs) in (
+      omega (arith, c .before .before .before .before .before .before .before .before .before .before .before .before .before .before .before .before .before .before .before .before .before .before .before .before .before .before .before .before .before .before .before .before .before .pre .0 .live),
+      (
+        continued (a .live .now) (a .runs .now) (a .undo .now) (a .room .now) (c .before .before .before .before .before .before .before .before .lay .last .0) (c .before .before .before .before .before .before .before .before .before .before .before .before .before .before .note-entries .last .0) (c .before .before .before .before .put-answer .last .0) (a .cells .now) (r .last .0) (a .c) _ (a .f)
+            (c .before .before .before .before .before .before .before .before .before .before .before .before .before .before .before .before .before .before .before .before .before .before .before .before .before .before .number-at .result) (c .before .before .before .before .before .before .before .before .before .before .before .before .before .before .before .before .before .before .before .number-at2 .result) (c .before .before .before .before .before .before .before .before .before .before .before .before .before .before .before .before .before .before .least .result) (c .before .before .before .before .before .before .before .before .before .before .before .before .before .before .before .before .state-after .result) (c .before .before .before .before .before .before .before .before .before .before .before .before .before .before .note-entries .result) (c .before .before .before .before .before .before .before .before .before .before .before .before .before .before .before .before .before .is-last .result) (r .result) w
+            (p .0) (p .1) (c .before .before .before .before .before .before .before .before .before .before .before .before .before .before .before .before .before .before .before .before .before .before .before .before .before .before .number-at .ensures) (r .ensures .0) (r .ensures .1) (c .before .before .before .before .before .before .before .before .before .before .before .before .before .before .before .before .before .before .before .number-at2 .ensures) (c .before .before .before .before .before .before .before .before .before .before .before .before .before .before .before .before .before .before .least .ensures) (c .before .before .before .before .before .before .before .before .before .before .before .before .before .before .before .before .before .is-last .ensures) (c .before .before .before .before .before .before .before .before .before .before .before .before .before .before .before .before .state-after .ensures) (c .before .before .before .before .before .before .before .before .before .before .before .before .before .before .note-entries .ensures .0)
+            (c .before .before .before .before .before .before .before .before .before .before .before .before .before .before .note-entries .ensures .1) (c .before .before .before .before .before .before .before .before .before .before .before .run-row .ensures) (c .before .before .before .before .before .before .before .before .lay .ensures ∙ ap (sets (a .runs .now) 0) (laid-whole w runWidth l)) (c .before .before .before .before .put-answer .ensures) refl,
+        (refl, refl),
+      ),
     )
 
 pub continue-front-spec : {M : Type 1} → statement M
@@ -114,7 +117,7 @@ continue-front-spec =
     slice-aggregate-lay
     lay-requires
     put-answer-requires
-    add-t27
+    add-t28
     same-length
     same-length-2
     same-length-3

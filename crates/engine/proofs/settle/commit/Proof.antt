@@ -1,3 +1,4 @@
+use Rattle.engine.proofs.Staying.{kept-both}
 use Rattle.engine.proofs.Deciding.{committed-both}
 use borrow.Author.Needs.{needs}
 use Rattle.engine.proofs.settle.commit.Statement.{statement}
@@ -28,7 +29,7 @@ returns c =
     let d = c .before .before .before .before .before .before .before .before .before .before .before .before .before .before .drop-front in
     let s = c .before .before .before .before .before .before .settle in (
       c .before .before .before .before .before .before .settle .ensures .0,
-      committed-both (a .live .now) (a .runs .now) (a .undo .now) (a .room .now) (d .last .0) (d .last .1 .0) (s .last .1 .0) (s .last .1 .1 .0) (s .last .1 .1 .1 .0) (a .c) (d .result) (s .result) (d .ensures .1 .1) (s .ensures .1),
+      (committed-both (a .live .now) (a .runs .now) (a .undo .now) (a .room .now) (d .last .0) (d .last .1 .0) (s .last .1 .0) (s .last .1 .1 .0) (s .last .1 .1 .1 .0) (a .c) (d .result) (s .result) (d .ensures .1 .1 .0) (s .ensures .1 .0), kept-both (a .c) (d .result) (s .result) (d .ensures .1 .1 .1) (s .ensures .1 .1)),
     )
 
 pub commit-spec : {M : Type 1} → statement M

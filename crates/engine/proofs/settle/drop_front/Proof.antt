@@ -1,15 +1,16 @@
+use Rattle.engine.proofs.Staying.{kept-at}
 use native.Mathlib.Omega.{arith}
 use Prim.Native.Nat.{ℕ, _≤_, _+_}
 use mathlib.Core.Path.{_≡_, refl, sym, subst}
 use Rattle.engine.specs.Work.{Fair}
-use Rattle.engine.specs.declared.counts.Counts.{Counts}
+use Rattle.engine.specs.declared.course.Course.{Course}
 use Rattle.engine.proofs.Settling.{dropped}
 use borrow.Author.Needs.{needs}
 use Rattle.engine.proofs.settle.drop_front.Statement.{statement}
 use Rattle.engine.proofs.settle.drop_front.Tie as tie
 use Rattle.engine.proofs.settle.drop_front.Reads as reads
 use Rattle.engine.proofs.settle.drop_front.Lts as lts
-use Rattle.engine.proofs.counts.Counts.leaves.Reads as leaves-reads
+use Rattle.engine.proofs.course.Course.leaves.Reads as leaves-reads
 use Rattle.rows.proofs.least.Reads as least-reads
 use Rattle.operations.proofs.number_at.Reads as number-at-reads
 use Rattle.record.proofs.shift.Reads as shift-reads
@@ -51,8 +52,8 @@ returns c = let a = c .before .before .before .before .before .before .before .b
     let few : e .result ≤ a .c .entries = omega (arith, e .ensures) in (
       subst Fair (sym (c .leaves .ensures)) (record { live = omega (arith, p .0 .live, p .1); answers = omega (arith, p .0 .answers, p .1); depth = omega (arith, p .0 .depth); entries = omega (arith, p .0 .entries) }),
       (
-        subst (λ (d : Counts). (d .uncommitted + 1 ≡ a .c .uncommitted) × (d .waiting ≡ a .c .waiting) × (d .answers ≡ a .c .answers)) (sym (c .leaves .ensures)) (omega (arith, p .1), refl, refl),
-        dropped (a .runs .now) (a .undo .now) (c .before .before .before .before .before .before .before .before .shift .last .0) (c .before .before .before .shift2 .last .0) (a .c) _ (c .before .before .before .before .before .before .before .before .before .before .before .before .number-at .result) (e .result) (p .0) (c .before .before .before .before .before .before .before .before .before .before .before .before .number-at .ensures) (e .ensures) (c .before .before .before .before .before .before .before .before .shift .ensures) (c .before .before .before .shift2 .ensures) (c .leaves .ensures),
+        subst (λ (d : Course). (d .counts .uncommitted + 1 ≡ a .c .counts .uncommitted) × (d .counts .waiting ≡ a .c .counts .waiting) × (d .answers ≡ a .c .answers)) (sym (c .leaves .ensures)) (omega (arith, p .1), refl, refl),
+        (dropped (a .runs .now) (a .undo .now) (c .before .before .before .before .before .before .before .before .shift .last .0) (c .before .before .before .shift2 .last .0) (a .c) _ (c .before .before .before .before .before .before .before .before .before .before .before .before .number-at .result) (e .result) (p .0) (c .before .before .before .before .before .before .before .before .before .before .before .before .number-at .ensures) (e .ensures) (c .before .before .before .before .before .before .before .before .shift .ensures) (c .before .before .before .shift2 .ensures) (c .leaves .ensures), kept-at (a .c) _ _ (c .leaves .ensures) (refl, refl)),
       ),
     )
 

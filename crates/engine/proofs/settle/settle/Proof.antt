@@ -1,4 +1,6 @@
-use Rattle.engine.specs.declared.counts.Counts.{Counts}
+use mathlib.Core.Path.{refl}
+use Rattle.engine.proofs.Staying.{kept-both, kept-at}
+use Rattle.engine.specs.declared.course.Course.{Course}
 use mathlib.Core.Path.{ap}
 use native.Mathlib.Omega.{arith}
 use Rattle.engine.proofs.Settling.{settled-both}
@@ -30,8 +32,8 @@ returns c =
     let a = c .before .before .before .before .before .before .before .before .before .before .before .before .before .before .before .before .before .before .before .before .before .args in
     let s = c .before .before .before .before .before .before .before .before .before .before .before .before .before .settle-singles in
     let n = c .before .before .before .before .new-front in (
-      omega (arith, c .before .before .before .before .before .before .before .before .before .before .before .before .before .settle-singles .ensures .0 .live, ap (λ (x : Counts). x .first) (c .before .before .before .before .new-front .ensures .0), ap (λ (x : Counts). x .uncommitted) (c .before .before .before .before .new-front .ensures .0), ap (λ (x : Counts). x .waiting) (c .before .before .before .before .new-front .ensures .0)),
-      settled-both (a .live .now) (a .runs .now) (a .undo .now) (a .room .now) (s .last .1 .0) (s .last .1 .1 .0) (s .last .1 .1 .1 .0) (n .last .1 .0) (n .last .1 .1 .0) (a .c) (s .result) (n .result) (s .ensures .1) (n .ensures .1),
+      omega (arith, c .before .before .before .before .before .before .before .before .before .before .before .before .before .settle-singles .ensures .0 .live, ap (λ (x : Course). x .first) (c .before .before .before .before .new-front .ensures .0), ap (λ (x : Course). x .counts .uncommitted) (c .before .before .before .before .new-front .ensures .0), ap (λ (x : Course). x .counts .waiting) (c .before .before .before .before .new-front .ensures .0)),
+      (settled-both (a .live .now) (a .runs .now) (a .undo .now) (a .room .now) (s .last .1 .0) (s .last .1 .1 .0) (s .last .1 .1 .1 .0) (n .last .1 .0) (n .last .1 .1 .0) (a .c) (s .result) (n .result) (s .ensures .1 .0) (n .ensures .1), kept-both (a .c) (s .result) (n .result) (s .ensures .1 .1) (kept-at (s .result) _ (n .result) (n .ensures .0) (refl, refl))),
     )
 
 pub settle-spec : {M : Type 1} → statement M

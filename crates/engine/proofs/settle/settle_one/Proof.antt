@@ -1,3 +1,7 @@
+use mathlib.Core.Path.{ap, refl, _∙_}
+use Prim.Native.Nat.{_+_}
+use Rattle.engine.specs.declared.course.Course.{Course}
+use Rattle.engine.proofs.Staying.{kept-both, kept-at}
 use native.Mathlib.Omega.{arith}
 use mathlib.Core.Path.{_≡_, refl}
 use Rattle.engine.proofs.Settling.{settled-one, settled-fair}
@@ -9,6 +13,7 @@ use Rattle.engine.proofs.settle.settle_one.Lts as lts
 use Rattle.operations.proofs.number_at.Reads as number-at-reads
 use Rattle.engine.proofs.settle.drop_front.Reads as drop-front-reads
 use Rattle.engine.proofs.settle.put_held.Reads as put-held-reads
+use Rattle.engine.proofs.course.Course.sends.Reads as sends-reads
 
 cast-number-at : tie.Need-cast-number-at
 cast-number-at c = search needs
@@ -25,6 +30,9 @@ put-held-requires c κs = search needs
 drop-front-requires : tie.Need-drop-front-requires
 drop-front-requires c κs = search needs
 
+sends-requires : tie.Need-sends-requires
+sends-requires c κs = search needs
+
 same-length : tie.Need-same-length
 same-length c = search needs
 
@@ -35,16 +43,19 @@ same-length-3 : tie.Need-same-length-3
 same-length-3 c = search needs
 
 returns : tie.Need-returns
-returns c = let a = c .before .before .before .before .before .before .before .before .before .before .before .before .before .before .before .before .before .before .args in
-    let p = c .before .before .before .before .before .before .before .before .before .before .before .before .before .before .before .before .before .before .pre in
-    let h = c .before .before .before .before .before .before .before .before .before .put-held in
-    let d = c .before .before .before .before .drop-front in (
-      settled-fair (a .live .now) (a .runs .now) (a .undo .now) (a .room .now) (d .last .0) (d .last .1 .0) (h .last .0) (a .c) (d .result) _ (c .before .before .before .before .before .before .before .before .before .before .before .before .number-at .result) (h .result) (p .0) (p .1) (c .before .before .before .before .before .before .before .before .before .before .before .before .number-at .ensures) (h .ensures .0) (h .ensures .1)
-          (d .ensures .0) (d .ensures .1 .0 .2) (d .ensures .1 .0 .0) (d .ensures .1 .0 .1) refl,
+returns c = let a = c .before .before .before .before .before .before .before .before .before .before .before .before .before .before .before .before .before .before .before .args in
+    let p = c .before .before .before .before .before .before .before .before .before .before .before .before .before .before .before .before .before .before .before .pre in
+    let h = c .before .before .before .before .before .before .before .before .before .before .put-held in
+    let d = c .before .before .before .before .before .drop-front in (
+      settled-fair (a .live .now) (a .runs .now) (a .undo .now) (a .room .now) (d .last .0) (d .last .1 .0) (h .last .0) (a .c) (d .result) _ (c .before .before .before .before .before .before .before .before .before .before .before .before .before .number-at .result) (h .result) (p .0) (p .1) (c .before .before .before .before .before .before .before .before .before .before .before .before .before .number-at .ensures) (h .ensures .0) (h .ensures .1)
+          (d .ensures .0) (d .ensures .1 .0 .2) (d .ensures .1 .0 .0) (d .ensures .1 .0 .1) (c .sends .ensures),
       (
-        d .ensures .1 .0 .0,
-        settled-one (a .live .now) (a .runs .now) (a .undo .now) (a .room .now) (d .last .0) (d .last .1 .0) (h .last .0) (a .c) (d .result) _ (c .before .before .before .before .before .before .before .before .before .before .before .before .number-at .result) (h .result) (p .0) (p .1) (c .before .before .before .before .before .before .before .before .before .before .before .before .number-at .ensures) (h .ensures .0) (h .ensures .1)
-            (d .ensures .1 .1) refl,
+        ap (λ (x : Course). x .counts .uncommitted + 1) (c .sends .ensures) ∙ d .ensures .1 .0 .0,
+        (
+          settled-one (a .live .now) (a .runs .now) (a .undo .now) (a .room .now) (d .last .0) (d .last .1 .0) (h .last .0) (a .c) (d .result) _ (c .before .before .before .before .before .before .before .before .before .before .before .before .before .number-at .result) (h .result) (p .0) (p .1) (c .before .before .before .before .before .before .before .before .before .before .before .before .before .number-at .ensures) (h .ensures .0) (h .ensures .1)
+              (d .ensures .1 .1 .0) (c .sends .ensures),
+          kept-both (a .c) (d .result) (c .sends .result) (d .ensures .1 .1 .1) (kept-at (d .result) _ (c .sends .result) (c .sends .ensures) (refl, refl)),
+        ),
       ),
     )
 
@@ -57,6 +68,7 @@ settle-one-spec =
     number-at-requires
     put-held-requires
     drop-front-requires
+    sends-requires
     same-length
     same-length-2
     same-length-3

@@ -2,14 +2,14 @@ use Prim.Native.Nat.{ℕ, _+_, _*_, _-_, _≤_, _<_}
 use native.Mathlib.Omega.{arith}
 use mathlib.Core.Path.{_≡_, sym, ap, _∙_}
 use borrow.Author.Tests.{not-true, not-false}
 use Rattle.rows.specs.Rows.{oneRows}
 use Rattle.rows.proofs.Reading.{one-on, one-stops, one-end, rows-start}
 use borrow.Author.Needs.{needs}
-use Rattle.engine.proofs.drain.one_coordinator.Statement.{statement}
-use Rattle.engine.proofs.drain.one_coordinator.Tie as tie
-use Rattle.engine.proofs.drain.one_coordinator.Reads as reads
-use Rattle.engine.proofs.drain.one_coordinator.Lts as lts
+use Rattle.rows.proofs.one_coordinator.Statement.{statement}
+use Rattle.rows.proofs.one_coordinator.Tie as tie
+use Rattle.rows.proofs.one_coordinator.Reads as reads
+use Rattle.rows.proofs.one_coordinator.Lts as lts
 use Rattle.rows.proofs.same_coordinator.Reads as same-coordinator-reads
 use Rattle.record.specs.Widths.{liveWidth}
 
 abbrev Inv-loop : tie.InvT-loop
@@ -22,6 +22,9 @@ loop-holds : tie.Need-loop-holds Inv-loop μ-loop
 loop-holds c = let a = c .before .args in
     let s = rows-start (a .b) (a .n) in
     (search needs, λ j. oneRows (a .live .now) (s .0 j) (s .1 j) (a .k))
+
+cast-same-coordinator : tie.Need-cast-same-coordinator Inv-loop μ-loop
+cast-same-coordinator c = search needs
 
 mul-same-coordinator : tie.Need-mul-same-coordinator Inv-loop μ-loop
 mul-same-coordinator c = search needs
@@ -60,6 +63,7 @@ one-coordinator-spec =
     Inv-loop
     μ-loop
     loop-holds
+    cast-same-coordinator
     mul-same-coordinator
     add-same-coordinator
     same-coordinator-requires

@@ -1,14 +1,14 @@
 use Prim.Native.Nat.{ℕ, _+_, _*_, _-_, _≤_, _<_}
 use native.Mathlib.Omega.{arith}
 use mathlib.Core.Path.{_≡_, sym, ap, _∙_}
 use Rattle.rows.specs.Rows.{nearRows}
 use Rattle.rows.proofs.Reading.{near-on, near-end, rows-start}
 use borrow.Author.Needs.{needs}
-use Rattle.engine.proofs.drain.nearest_multi.Statement.{statement}
-use Rattle.engine.proofs.drain.nearest_multi.Tie as tie
-use Rattle.engine.proofs.drain.nearest_multi.Reads as reads
-use Rattle.engine.proofs.drain.nearest_multi.Lts as lts
+use Rattle.rows.proofs.nearest_multi.Statement.{statement}
+use Rattle.rows.proofs.nearest_multi.Tie as tie
+use Rattle.rows.proofs.nearest_multi.Reads as reads
+use Rattle.rows.proofs.nearest_multi.Lts as lts
 use Rattle.rows.proofs.nearer.Reads as nearer-reads
 use Rattle.record.specs.Widths.{liveWidth}
 
 abbrev Inv-loop : tie.InvT-loop
@@ -21,6 +21,9 @@ loop-holds : tie.Need-loop-holds Inv-loop μ-loop
 loop-holds c = let a = c .before .args in
     let s = rows-start (a .b) (a .n) in
     (search needs, λ j. nearRows 0 (a .live .now) (s .0 j) (s .1 j))
+
+cast-nearer : tie.Need-cast-nearer Inv-loop μ-loop
+cast-nearer c = search needs
 
 mul-nearer : tie.Need-mul-nearer Inv-loop μ-loop
 mul-nearer c = search needs
@@ -54,6 +57,7 @@ nearest-multi-spec =
     Inv-loop
     μ-loop
     loop-holds
+    cast-nearer
     mul-nearer
     add-nearer
     nearer-requires

@@ -15,8 +15,7 @@ use Rattle.model.specs.declared.Fragment.{Fragment}
 use Rattle.operations.specs.Laid.{padded, flat, laid}
 use Rattle.operations.specs.declared.Ran.{Ran}
 use Rattle.record.specs.Words.{stateWord, runWords}
-use Rattle.engine.specs.Work.{withAnswer}
-use Rattle.rows.specs.Rows.{answerRow, runRow, stateWordAfter, begunRow}
+use Rattle.rows.specs.Rows.{withAnswer, answerRow, runRow, stateWordAfter, begunRow}
 use Rattle.model.specs.Limits.{answerWords}
 
 -- eight numbers, padded or cut

@@ -1,9 +1,9 @@
 use borrow.Author.Tests.{eq-eqb, ne-eqb, lt-ltb, le-ltb}
 use borrow.Author.Needs.{needs}
-use Rattle.engine.proofs.largest_after.Statement.{statement}
-use Rattle.engine.proofs.largest_after.Tie as tie
-use Rattle.engine.proofs.largest_after.Reads as reads
-use Rattle.engine.proofs.largest_after.Lts as lts
+use Rattle.record.proofs.largest_after.Statement.{statement}
+use Rattle.record.proofs.largest_after.Tie as tie
+use Rattle.record.proofs.largest_after.Reads as reads
+use Rattle.record.proofs.largest_after.Lts as lts
 
 returns : tie.Need-returns
 returns c = rw (eq-eqb (c .before .before .args .kind) 1 (c .before .if1 .taken), lt-ltb (c .before .before .args .largest) (c .before .before .args .number) (c .if2 .taken))
