@@ -14,7 +14,8 @@ use Rattle.model.specs.declared.Event.{Event}
 use Rattle.model.specs.declared.Scheme.{Scheme}
 use Rattle.model.proofs.Unique.{Unique, UniqueBy, both-facts}
 use Rattle.record.specs.declared.Record.{Record}
-use Rattle.boundary.specs.Lent.{calledWith, Leaves}
+use Rattle.engine.specs.Called.{Leaves}
+use Rattle.boundary.specs.Lent.{calledWith}
 use Rattle.boundary.proofs.harukdalis_start as start
 use Rattle.boundary.proofs.harukdalis_call as call
 use Rattle.boundary.proofs.harukdalis_call_blocking as call-blocking

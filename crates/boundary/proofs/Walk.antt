@@ -55,9 +55,9 @@ use Rattle.model.proofs.Scheme as S
 use Rattle.model.proofs.Scheme.Laws as S′
 use denote.Enum.Laws as EL
 use Rattle.engine.specs.declared.LentCall.{LentCall}
-use Rattle.engine.specs.Called.{recordBy, lentCall}
+use Rattle.engine.specs.Called.{Leaves, recordBy, lentCall}
 use Rattle.boundary.specs.Words.{eventOf}
-use Rattle.boundary.specs.Lent.{Leaves, calledWith}
+use Rattle.boundary.specs.Lent.{calledWith}
 use Rattle.record.proofs.Record as T
 use Rattle.record.proofs.Record.Laws as T′
 use Rattle.engine.proofs.LentCall as D

@@ -1,19 +1,19 @@
 -- The steps of an accepted call, from what the queues' functions say to what the definitions say.
 use Prim.Native.Nat.{ℕ, zero, suc, _+_, _*_, _-_, _≤_, _<_}
 use native.Mathlib.Omega.{arith}
-use borrow.Author.Tests.{eq-eqb, ne-eqb, eqb-true, leb-false, ltb-true, not-false}
+use borrow.Author.Tests.{ne-eqb, leb-false, ltb-true, not-false}
 use mathlib.Core.Path.{_≡_, refl, sym, ap, _∙_, subst}
-use mathlib.Core.Bool.{Bool, true, false, not, _&&_, _||_, true≢false}
+use mathlib.Core.Bool.{Bool, true, false, not, _&&_, true≢false}
 use mathlib.Core.List.{List, [], _∷_, _++_, append-assoc, append-nil, map}
-use lib.Dec.{eqb, ltb, leb}
+use lib.Dec.{eqb, leb}
 use lib.ListN.{length, getD, length-append, length-map}
 use lib.Seq.{sets}
 use Rattle.model.specs.Limits.{mostLive, mostFragments}
 use Rattle.model.specs.Operations.{Cells}
-use Rattle.model.specs.Transactions.{finished, Uncommitted, Waiting, Engine, Answer, answer, undoList, front}
-use Rattle.model.specs.Steps.{Queues, sending, arrived, joined, continued, committed, aborted, settled, again, requeued, run, undone}
+use Rattle.model.specs.Transactions.{finished, Uncommitted, Waiting, Engine, Answer, answer, front}
+use Rattle.model.specs.Steps.{Queues, sending, arrived, joined, continued, committed, aborted, settled, again, requeued, run}
 use Rattle.model.specs.Steps as Steps
-use Rattle.model.specs.Refusals.{rows, firstOf, refusal, Request, Arrive, Commit, Abort, request, Call, live, new, isFront, sound, storable, taken, largestAfter}
+use Rattle.model.specs.Refusals.{rows, firstOf, refusal, Request, Arrive, Commit, Abort, request, Call, live, new, isFront, sound, storable, taken}
 use Rattle.model.specs.declared.Event.{Event}
 use Rattle.model.specs.declared.Fragment.{Fragment}
 use Rattle.model.specs.declared.Scheme.{Scheme}
@@ -25,14 +25,14 @@ use Rattle.model.proofs.Keeping.{joined-sound, continued-sound, settled-sound, 
 use Rattle.model.proofs.Kept.{arrives-storable}
 use Rattle.operations.specs.Laid.{padded}
 use Rattle.record.specs.Words.{rowWords, allRows, rowOf, liveRows}
-use Rattle.record.proofs.Rows.{lay-padded, shift-padded}
-use Rattle.record.proofs.Back.{known-of, length-row, length-rows, rows-append, number-back, eights-first, eights-rest}
+use Rattle.record.proofs.Rows.{lay-padded}
+use Rattle.record.proofs.Back.{known-of, length-row, length-rows, rows-append, number-back}
 use Rattle.refusals.specs.Rest.{callOf, frontIs, behindFirst}
 use Rattle.engine.specs.declared.course.Course.{Course}
 use Rattle.engine.specs.Work.{waitingMore, Work, Left, Small, Fair, Drained, Committed, Aborted, Continued}
 use Rattle.engine.specs.Ready.{Ready}
-use Rattle.model.specs.Parts.{All, Passed, Sound}
-use Rattle.record.specs.Fitting.{Eight, Known}
+use Rattle.model.specs.Parts.{All, Sound}
+use Rattle.record.specs.Fitting.{Eight}
 use Rattle.record.specs.Widths.{liveWidth, liveLength}
 
 -- the rows hold lists whose drain, with the answers sent so far, is q

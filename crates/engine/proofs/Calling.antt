@@ -1,7 +1,7 @@
 -- A call put together: what a refusal and an accepted call leave is what the contract says.
 use Prim.Native.Nat.{ℕ, zero, suc, _+_, _*_, _≤_}
 use native.Mathlib.Omega.{arith}
-use borrow.Author.Tests.{not-false, ltb-false, ne-eqb}
+use borrow.Author.Tests.{ltb-false, ne-eqb}
 use mathlib.Core.Path.{_≡_, refl, sym, ap, _∙_, subst}
 use mathlib.Core.Bool.{Bool, true, false, _||_}
 use mathlib.Core.List.{List, [], _∷_, _++_, map}
@@ -12,7 +12,7 @@ use Rattle.model.specs.Limits.{leastRoom, mostCells}
 use Rattle.model.specs.Operations.{Cells, pick}
 use Rattle.model.specs.Transactions.{Uncommitted, Waiting, Engine, allWords, filled}
 use Rattle.model.specs.Steps.{Queues}
-use Rattle.model.specs.Refusals.{Call, Stepped, Request, Arrive, Commit, Abort, refusal, request, taken, new, largestAfter, respond, step}
+use Rattle.model.specs.Refusals.{Stepped, Request, refusal, request, taken, largestAfter, respond, step}
 use Rattle.model.specs.Refusals as Refusals
 use Rattle.model.specs.declared.Event.{Event}
 use Rattle.model.specs.declared.Scheme.{Scheme}
@@ -28,9 +28,9 @@ use Rattle.record.proofs.Rows.{shift-padded}
 use Rattle.record.proofs.Back.{length-rows, rows-append, eights-first}
 use Rattle.operations.specs.Laid.{padded}
 use Rattle.tidy.specs.Tidied.{Canonical}
-use Rattle.engine.specs.Work.{Work, Left}
+use Rattle.engine.specs.Work.{Left}
 use Rattle.engine.specs.declared.course.Course.{Course}
-use Rattle.engine.specs.Called.{stepped, nextOf, called, cellsAfter, roomAfter, freshOf, recordBy}
+use Rattle.engine.specs.Called.{stepped, nextOf, called, Leaves, freshOf, recordBy}
 use Rattle.engine.specs.Ready.{Ready}
 use Rattle.engine.specs.declared.Called.{Called}
 use Rattle.engine.specs.declared.Fresh.{Fresh}
@@ -39,23 +39,19 @@ use Rattle.model.specs.Parts.{All, Passed}
 use Rattle.record.specs.Fitting.{Eight}
 use Rattle.record.specs.Widths.{liveWidth, liveLength, runsLength, undoLength}
 
--- the three equations of the contract
-abbrev pub Meets : Scheme → Record → Event → Cells → List ℕ → Called → Cells → List ℕ → Type 0
-Meets σ r v cells room d cells′ room′ = (d ≡ called σ r v cells room) × ((cells′ ≡ cellsAfter σ r v cells room) × (room′ ≡ roomAfter σ r v cells room))
+-- what a call leaves, of the step that the refusal's number k gives
+abbrev LeavesOf : Record → Stepped → Called → Cells → List ℕ → Type 0
+LeavesOf r s d cells′ room′ = (d ≡ record { number = s .number; answers = length (s .answers); next = nextOf r s }) × (cells′ ≡ s .cells) × (room′ ≡ s .room)
 
--- the same, of the step that the refusal's number k gives
-abbrev MeetsOf : Record → Stepped → Called → Cells → List ℕ → Type 0
-MeetsOf r s d cells′ room′ = (d ≡ record { number = s .number; answers = length (s .answers); next = nextOf r s }) × ((cells′ ≡ s .cells) × (room′ ≡ s .room))
-
-meets-by : (σ : Scheme) (r : Record) (v : Event) (cells room : List ℕ) (d : Called) (cells′ room′ : List ℕ) (k : ℕ) → refusal (view r) (callOf σ v cells room) ≡ k
-    → MeetsOf r (respond k (view r) (callOf σ v cells room)) d cells′ room′ → Meets σ r v cells room d cells′ room′
+leaves-by : (σ : Scheme) (r : Record) (v : Event) (cells room : List ℕ) (d : Called) (cells′ room′ : List ℕ) (k : ℕ) → refusal (view r) (callOf σ v cells room) ≡ k
+    → LeavesOf r (respond k (view r) (callOf σ v cells room)) d cells′ room′ → Leaves σ r v cells room d cells′ room′
 unfolding called stepped step
-meets-by σ r v cells room d cells′ room′ k e m = subst (λ (x : ℕ). MeetsOf r (respond x (view r) (callOf σ v cells room)) d cells′ room′) (sym e) m
+leaves-by σ r v cells room d cells′ room′ k e m = subst (λ (x : ℕ). LeavesOf r (respond x (view r) (callOf σ v cells room)) d cells′ room′) (sym e) m
 
 pub refused-call : (σ : Scheme) (r : Record) (v : Event) (cells room : List ℕ) (k : ℕ) → k ≡ refusal (view r) (callOf σ v cells room) → (k ≡ 0 → ⊥)
-    → Meets σ r v cells room (record { number = k; answers = 0; next = r }) cells room
+    → Leaves σ r v cells room (record { number = k; answers = 0; next = r }) cells room
 refused-call σ r v cells room zero e ne = absurd (ne refl)
-refused-call σ r v cells room (suc k) e ne = meets-by σ r v cells room (record { number = suc k; answers = 0; next = r }) cells room (suc k) (sym e) (refl, (refl, refl))
+refused-call σ r v cells room (suc k) e ne = leaves-by σ r v cells room (record { number = suc k; answers = 0; next = r }) cells room (suc k) (sym e) (refl, refl, refl)
 
 -- no answers fill nothing
 pub filled-none : (room : List ℕ) → room ≡ filled [] room
@@ -115,10 +111,10 @@ closed live live′ gone ws k m el eg ea ek em h e =
 pub accepted-call : (σ : Scheme) (r : Record) (v : Event) (cells room : List ℕ) (live live′ runs undo room′ : List ℕ) (cells′ : Cells) (k : Counts) (c : Course) → refusal (view r) (callOf σ v cells room) ≡ 0
     → Left live runs undo room′ c cells′ [] room (taken σ (request v) (view r) cells) → c .first + c .counts .uncommitted + c .counts .waiting ≤ 64
     → live′ ≡ sets live 0 (numbersFrom live (liveWidth * c .first) (liveWidth * (c .first + c .counts .uncommitted + c .counts .waiting))) → k ≡ largestAt (r .counts) (largestBy (v .kind) (v .number) (r .counts .largest)) → c .counts .cells ≡ k .cells → c .counts .largest ≡ k .largest
-    → Meets σ r v cells room (record { number = 0; answers = c .answers; next = recordBy (c .counts) live′ runs undo }) cells′ room′
+    → Leaves σ r v cells room (record { number = 0; answers = c .answers; next = recordBy (c .counts) live′ runs undo }) cells′ room′
 unfolding pack viewOf
 accepted-call σ r v cells room live live′ runs undo room′ cells′ k c z l h el ek same top =
-    meets-by σ r v cells room _ cells′ room′ 0 z (
+    leaves-by σ r v cells room _ cells′ room′ 0 z (
       (λ j. record {
         number = 0;
         answers = sym (l .work .answers) j;
@@ -134,7 +130,8 @@ accepted-call σ r v cells room live live′ runs undo room′ cells′ k c z l 
           undo = l .work .at-undo j;
         };
       }),
-      (l .stands, l .work .at-room),
+      l .stands,
+      l .work .at-room,
     )
   where
     q : Queues

@@ -1,16 +1,15 @@
 -- Commit, abort and a further fragment of the front, in plain terms.
-use Prim.Native.Nat.{ℕ, zero, suc, _+_, _*_, _-_, min, _≤_, _<_}
+use Prim.Native.Nat.{ℕ, _+_, _*_, _-_, min, _≤_, _<_}
 use native.Mathlib.Omega.{arith}
-use borrow.Author.Tests.{ne-eqb, eq-eqb}
 use mathlib.Core.Path.{_≡_, refl, sym, ap, _∙_, subst}
 use mathlib.Core.Bool.{Bool, true, false}
 use mathlib.Core.List.{List, [], _∷_, _++_, append-assoc, append-nil, map}
 use lib.Dec.{eqb}
-use lib.ListN.{length, getD, take, replicate, length-append, length-map, length-take}
+use lib.ListN.{length, getD, replicate, length-append, length-map, length-take}
 use lib.Seq.{sets}
 use Rattle.model.specs.Operations.{Cells, Outcome, pick, last, operations}
-use Rattle.model.specs.Transactions.{Uncommitted, Waiting, Answer, answer, undoList, filled}
-use Rattle.model.specs.Steps.{run, requeued, settled, undone, again, stateAfter}
+use Rattle.model.specs.Transactions.{Uncommitted, Waiting, answer, undoList, filled}
+use Rattle.model.specs.Steps.{run, requeued, undone, again, stateAfter}
 use Rattle.model.specs.Steps as Steps
 use Rattle.model.specs.declared.Fragment.{Fragment}
 use Rattle.model.specs.declared.Undo.{Undo}
@@ -23,7 +22,7 @@ use Rattle.record.specs.View.{numbersFrom}
 use Rattle.record.proofs.Rows.{shift-padded, lay-padded, numbers-padded}
 use Rattle.record.proofs.Back.{eights-first, eights-rest, number-back, length-runs, length-flat, flat-append, entries-back}
 use Rattle.engine.specs.declared.course.Course.{Course}
-use Rattle.engine.specs.Work.{Work, Fair, Dropped, Settled, Committed, Aborted, Continued, leftBy, requeuedAll}
+use Rattle.engine.specs.Work.{Fair, Dropped, Settled, Committed, Aborted, Continued, leftBy, requeuedAll}
 use Rattle.rows.specs.Rows.{withAnswer, runRow, stateWordAfter}
 use Rattle.rows.proofs.Rooms.{answered-room, state-word}
 use Rattle.engine.proofs.Settling.{first-word, front-runs}

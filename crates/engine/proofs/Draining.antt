@@ -1,17 +1,17 @@
 -- The drain's loop, in plain terms: what is left to drain from here, with the answers so far, is the whole.
-use Prim.Native.Nat.{ℕ, zero, suc, _+_, _*_, _-_, min, _≤_, _<_}
+use Prim.Native.Nat.{ℕ, suc, _+_, _*_, _-_, _≤_, _<_}
 use native.Mathlib.Omega.{arith}
-use borrow.Author.Tests.{ne-eqb, eq-eqb, eqb-true, ltb-true, leb-true, leb-false, lt-ltb, le-ltb, lt-leb, le-leb}
+use borrow.Author.Tests.{ne-eqb, eqb-true, leb-true, leb-false, lt-ltb, le-ltb}
 use mathlib.Core.Path.{_≡_, refl, sym, ap, _∙_, subst, subst₂}
-use mathlib.Core.Bool.{Bool, true, false, not, _&&_, _||_, true≢false}
+use mathlib.Core.Bool.{Bool, true, false, _&&_, true≢false}
 use mathlib.Core.Logic.{_⊎_, inl, inr}
-use mathlib.Core.List.{List, [], _∷_, _++_, append-assoc, append-nil, map}
-use lib.Dec.{eqb, ltb, leb}
+use mathlib.Core.List.{List, [], _∷_, _++_, append-assoc, append-nil}
+use lib.Dec.{eqb, leb}
 use lib.ListN.{length, getD, take, length-append, length-take}
 use Rattle.model.specs.Limits.{depth}
 use Rattle.model.specs.Operations.{Cells, pick, operations}
-use Rattle.model.specs.Transactions.{State, Running, Finished, Failed, NoState, finished, Uncommitted, Waiting, Answer, undoList}
-use Rattle.model.specs.Steps.{run, lastFinished, mayTake, Place, placed, Queues, sending}
+use Rattle.model.specs.Transactions.{State, Running, Finished, Failed, NoState, finished, Uncommitted, Waiting, Answer}
+use Rattle.model.specs.Steps.{run, lastFinished, mayTake, placed, Queues, sending}
 use Rattle.model.specs.Steps as Steps
 use Rattle.model.specs.declared.Fragment.{Fragment}
 use Rattle.model.specs.declared.Scheme.{Scheme}
@@ -26,7 +26,7 @@ use Rattle.record.specs.Words.{allRuns, runWords, stateWord}
 use Rattle.record.specs.View.{fragmentAt}
 use Rattle.record.proofs.Back.{known-of, run-read}
 use Rattle.engine.specs.declared.course.Course.{Course}
-use Rattle.engine.specs.Work.{Small, Work, Left, Took, Drained, joinedBy, settledAtOnce, withAnswers}
+use Rattle.engine.specs.Work.{Small, Work, Took, Drained, joinedBy, settledAtOnce, withAnswers}
 use Rattle.rows.specs.Rows.{blocking, mayTakeRow}
 use Rattle.model.specs.Parts.{All, Sound}
 use Rattle.record.specs.Fitting.{Fit, Known}

@@ -1,38 +1,35 @@
 -- One turn of the drain, in plain terms: what the rows hold after the one that ran was answered, joined or settled.
-use Prim.Native.Nat.{ℕ, zero, suc, _+_, _*_, _≤_, _<_}
+use Prim.Native.Nat.{ℕ, suc, _+_, _*_, _≤_, _<_}
 use native.Mathlib.Omega.{arith}
-use borrow.Author.Tests.{ne-eqb, eq-eqb, ltb-true}
+use borrow.Author.Tests.{ne-eqb, ltb-true}
 use mathlib.Core.Path.{_≡_, refl, sym, ap, _∙_, subst, subst₂}
-use mathlib.Core.Bool.{Bool, true, false, not, _&&_, _||_, true≢false}
-use mathlib.Core.List.{List, [], _∷_, _++_, append-assoc, append-nil, map, foldl}
-use lib.Dec.{eqb, ltb}
-use lib.ListN.{length, getD, replicate, length-append, length-map}
+use mathlib.Core.Bool.{Bool, true, false, not, _||_, true≢false}
+use mathlib.Core.List.{List, [], _∷_, _++_, append-assoc, append-nil, map}
+use lib.ListN.{length, getD, length-append, length-map}
 use lib.Seq.{sets}
-use Rattle.model.specs.Limits.{leastRoom, depth}
-use Rattle.model.specs.Operations.{Cells, Outcome, pick, multi, last, operations}
-use Rattle.model.specs.Transactions.{Reply, Held, Sent, Uncommitted, Waiting, Answer, answer, undoList, filled}
-use Rattle.model.specs.Refusals.{every}
-use Rattle.model.specs.Steps.{run, begun, oneCoordinator, nearest, lastFinished, mayTake, Place, placed, Queues}
+use Rattle.model.specs.Limits.{depth}
+use Rattle.model.specs.Operations.{Cells, pick, multi, last}
+use Rattle.model.specs.Transactions.{Held, Sent, Uncommitted, Waiting, Answer, answer, undoList, filled}
+use Rattle.model.specs.Steps.{run, begun, oneCoordinator, nearest, mayTake, Place, placed}
 use Rattle.model.specs.Steps as Steps
 use Rattle.model.specs.declared.Fragment.{Fragment}
 use Rattle.model.specs.declared.Scheme.{Scheme}
 use Rattle.model.proofs.Taking.{may-less}
 use Rattle.model.specs.declared.Undo.{Undo}
 use Rattle.model.proofs.Chain.{all-map}
-use Rattle.model.proofs.Tests.{and-left}
 use Rattle.model.proofs.Keeping as Keeping
 use Rattle.operations.specs.Laid.{padded, flat, laid}
 use Rattle.operations.specs.declared.Ran.{Ran}
 use Rattle.record.specs.Words.{allRows, runWords, allRuns, rowOf, liveRows, heldOutcome}
-use Rattle.record.specs.View.{fragmentAt, waitingOf, numbersFrom}
+use Rattle.record.specs.View.{fragmentAt, numbersFrom}
 use Rattle.record.proofs.Rows.{lay-padded, numbers-padded}
-use Rattle.record.proofs.Back.{known-of, eights-first, eights-rest, length-rows, fragment-back, number-back, waiting-back, length-run, length-runs, runs-append, undo-append, flat-append, length-flat}
+use Rattle.record.proofs.Back.{known-of, eights-first, eights-rest, fragment-back, number-back, length-run, length-runs, runs-append, undo-append, flat-append, length-flat}
 use Rattle.engine.specs.declared.course.Course.{Course}
 use Rattle.engine.specs.Work.{Work, Left, joinedBy, settledAtOnce, withAnswers, Small}
 use Rattle.rows.specs.Rows.{oneRows, nearRows, answeredNow, joinsQueue, begunRow, withAnswer}
 use Rattle.rows.proofs.Placed.{placed-by, one-back, near-all}
 use Rattle.rows.proofs.Rooms.{answered-room, begun-words}
-use Rattle.model.specs.Parts.{All, Sound, SoundOne}
+use Rattle.model.specs.Parts.{All, Sound}
 use Rattle.record.specs.Fitting.{Eight, Fit, Known}
 use Rattle.record.specs.Widths.{liveWidth, runWidth, liveLength, runsLength, undoLength}
 

@@ -1,31 +1,29 @@
 -- Settling, in plain terms: the first of the queue leaves it, singles settle until a multi is first, the new front is answered.
-use Prim.Native.Nat.{ℕ, zero, suc, _+_, _*_, _-_, _%_, min, _≤_, _<_}
+use Prim.Native.Nat.{ℕ, suc, _+_, _*_, _-_, _%_, min, _≤_, _<_}
 use native.Mathlib.Omega.{arith}
-use borrow.Author.Tests.{ne-eqb, eq-eqb, not-false}
-use mathlib.Core.Path.{_≡_, refl, sym, ap, _∙_, subst, subst₂}
-use mathlib.Core.Bool.{Bool, true, false, not, _&&_, _||_, true≢false}
+use borrow.Author.Tests.{not-false}
+use mathlib.Core.Path.{_≡_, refl, sym, ap, _∙_, subst}
+use mathlib.Core.Bool.{Bool, true, false, not}
 use mathlib.Core.Logic.{_⊎_, inl, inr}
-use mathlib.Core.List.{List, [], _∷_, _++_, append-assoc, append-nil, map}
+use mathlib.Core.List.{List, [], _∷_, _++_, append-assoc, append-nil}
 use lib.Dec.{eqb}
-use lib.ListN.{length, getD, take, drop, replicate, length-append, length-map, List·getD-append}
-use lib.Seq.{sets, sets-eq, take-at, drop-at, drop-append-add, getD-append-add}
-use Rattle.model.specs.Limits.{leastRoom, answerWords}
+use lib.ListN.{length, getD, drop, replicate, length-append, List·getD-append}
+use lib.Seq.{sets, sets-eq, drop-at, getD-append-add}
+use Rattle.model.specs.Limits.{answerWords}
 use Rattle.model.specs.Operations.{Outcome, pick, multi}
 use Rattle.model.specs.Transactions.{Reply, Held, Sent, NoReply, Uncommitted, Waiting, Answer, answer, words, undoList, filled, front}
 use Rattle.model.specs.Steps.{heldBy, sent, Place, settled}
-use Rattle.model.specs.Refusals.{isReply}
-use Rattle.model.specs.declared.Undo.{Undo}
-use Rattle.model.proofs.Chain.{all-append, all-map}
+use Rattle.model.proofs.Chain.{all-map}
 use Rattle.operations.specs.Laid.{padded, flat}
 use Rattle.operations.proofs.Turns.{length-padded}
 use Rattle.record.specs.Words.{rowWords, allRows, stateWord, replyWord, heldOutcome, outcomeWords, runWords, allRuns, rowOf, liveRows}
 use Rattle.record.specs.View.{numbersFrom}
-use Rattle.record.proofs.Rows.{shift-padded, numbers-same, numbers-whole, getD-padded}
+use Rattle.record.proofs.Rows.{shift-padded, numbers-same, numbers-whole}
 use Rattle.record.proofs.Back.{eights-first, eights-rest, row-read, number-back, length-run, length-runs, run-read, length-flat, flat-append}
 use Rattle.engine.specs.declared.course.Course.{Course}
 use Rattle.engine.specs.Work.{Work, Fair, Dropped, SettledOne, SettledTo, Singles, Fronted, Settled, leftBy, withAnswers}
 use Rattle.rows.specs.Rows.{holdsRow, heldRow, multiRow, sentRow, runRow}
-use Rattle.rows.proofs.Rooms.{answer-row, length-words, room-more}
+use Rattle.rows.proofs.Rooms.{answer-row, room-more}
 use Rattle.model.specs.Parts.{All}
 use Rattle.record.specs.Fitting.{Eight, Fit, Known}
 use Rattle.record.specs.Widths.{liveWidth, runWidth, liveLength, runsLength, undoLength}

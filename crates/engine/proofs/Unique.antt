@@ -31,8 +31,8 @@ call-lent-unique κs a z z′ ws ws′ p q =
     let v = ws .1 .1 in
     let v′ = ws′ .1 .1 in
     let x = parts _ z z′ (v .0) (v′ .0) (v .1 .0) (v′ .1 .0) (v .1 .1 .0) (v′ .1 .1 .0) (p .0) (q .0) in
-    let cells : v .1 .1 .1 .0 ≡ v′ .1 .1 .1 .0 = cc in
-    let room : v .1 .1 .1 .1 .1 .0 ≡ v′ .1 .1 .1 .1 .1 .0 = cc in
+    let cells : v .1 .1 .1 .0 ≡ v′ .1 .1 .1 .0 = p .1 ∙ sym (q .1) in
+    let room : v .1 .1 .1 .1 .1 .0 ≡ v′ .1 .1 .1 .1 .1 .0 = p .2 ∙ sym (q .2) in
     (x .0, λ j. (ws .0, (ws .1 .0, (x .1 j, (x .2 j, (x .3 j, (cells j, (v .1 .1 .1 .1 .0, (room j, v .1 .1 .1 .1 .1 .1)))))))))
 
 pub call-by-unique : Unique call-by-kinds.ps call-by-kinds.r call-by.Learnt

@@ -1,5 +1,6 @@
 -- What a call does, of every scheme, record, event, lent cells and lent answer room: the list engine's step at the record's view.
 use Prim.Native.Nat.{ℕ, zero, suc}
+use mathlib.Core.Path.{_≡_}
 use mathlib.Core.List.{List}
 use lib.ListN.{length}
 use Rattle.model.specs.Operations.{Cells}
@@ -35,6 +36,10 @@ cellsAfter σ r v cells room = stepped σ r v cells room .cells
 
 abbrev pub roomAfter : Scheme → Record → Event → Cells → List ℕ → List ℕ
 roomAfter σ r v cells room = stepped σ r v cells room .room
+
+-- what a call tells, and the cells and the room that it leaves
+abbrev pub Leaves : Scheme → Record → Event → Cells → List ℕ → Called → Cells → List ℕ → Type 0
+Leaves σ r v cells room d cells′ room′ = (d ≡ called σ r v cells room) × (cells′ ≡ cellsAfter σ r v cells room) × (room′ ≡ roomAfter σ r v cells room)
 
 -- a record from its counts and its rows, and what a call on lent rows leaves, as one record
 abbrev pub recordBy : Counts → List ℕ → List ℕ → List ℕ → Record

@@ -1,27 +1,23 @@
 -- The rows that a call works on, and the lists that they hold: what the functions of this crate do to the one, said of the other.
-use Prim.Native.Nat.{ℕ, zero, suc, _+_, _*_, _-_, _%_, _≤_, _<_}
+use Prim.Native.Nat.{ℕ, _+_, _*_, _-_, _≤_, _<_}
 use mathlib.Core.Path.{_≡_}
-use mathlib.Core.Bool.{Bool, true, false, not, _&&_, _||_}
+use mathlib.Core.Bool.{true, false, not}
 use mathlib.Core.List.{List, [], _∷_, _++_, map}
-use lib.Dec.{ltb, leb, eqb}
-use lib.ListN.{length, getD, replicate}
+use lib.ListN.{length}
 use Rattle.model.specs.Limits.{leastRoom}
-use Rattle.model.specs.Operations.{Cells, Outcome, multi, pick}
-use Rattle.record.specs.View.{numbersFrom}
+use Rattle.model.specs.Operations.{Cells, multi}
 use Rattle.model.specs.Transactions.{Uncommitted, Waiting, Answer, answer, undoList, filled, front}
-use Rattle.model.specs.Steps.{run, requeued, mayTake, placed, Queues, drain, again, heldBy, sent, Place, settled, undone}
+use Rattle.model.specs.Steps.{run, requeued, mayTake, placed, Queues, drain, again, heldBy, sent, settled, undone}
 use Rattle.model.specs.declared.Fragment.{Fragment}
 use Rattle.model.specs.declared.Scheme.{Scheme}
-use Rattle.model.specs.declared.Scheme.the-variants.{Speculation, Blocking}
 use Rattle.operations.specs.Laid.{padded, flat}
 use Rattle.operations.specs.declared.Ran.{Ran}
 use Rattle.record.specs.Words.{allRows, allRuns, rowOf, liveRows}
-use Rattle.record.specs.View.{fragmentAt}
 use Rattle.record.specs.Ends.{endsAt}
 use Rattle.engine.specs.declared.course.Course.{Course}
 use Rattle.record.specs.Fitting.{Eight, Known}
 use Rattle.model.specs.Parts.{All, Sound}
-use Rattle.record.specs.Widths.{liveWidth, runWidth, liveLength, runsLength, undoLength}
+use Rattle.record.specs.Widths.{liveLength, runsLength, undoLength}
 
 -- counts that fit: what keeps the arithmetic of a call in bounds
 pub record Small (c : Course) : Type 0 where

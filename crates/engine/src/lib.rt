@@ -12,7 +12,7 @@ ghost use Rattle.record.specs.Words.{rowWords, pack};
 ghost use Rattle.record.specs.View.{viewBy};
 ghost use Rattle.refusals.specs.Rest.{callOf};
 ghost use Rattle.engine.specs.Work.{Kept, waitingMore};
-ghost use Rattle.engine.specs.Called.{called, cellsAfter, roomAfter, freshOf, recordBy, lentCall};
+ghost use Rattle.engine.specs.Called.{called, cellsAfter, roomAfter, Leaves, freshOf, recordBy, lentCall};
 ghost use Rattle.engine.specs.Ready.{Accepts, Accepted};
 use crate::course::Course;
 use model::Event;
@@ -190,8 +190,8 @@ pub(crate) fn accept(
     accept_abort(scheme, live, runs, undo, cells, room, c, event)
 }
 
-// A call on a record whose rows are lent: refused with nothing touched, or carried out where the rows stand.
-pub fn call_lent(
+// An accepted call, carried out where the rows stand: unused places cleared, the event's step, and the rows of those that are gone closed up.
+pub(crate) fn carry_out(
     scheme: Scheme,
     counts: Counts,
     live: &mut Live,
@@ -201,21 +201,11 @@ pub fn call_lent(
     event: Event,
     room: &mut [u32],
 ) -> LentCall
-    ensures { λ d. ⌜ lentCall d (now (live .exit)) (now (runs .exit)) (now (undo .exit))
-        ≡ called scheme (recordBy counts (now (live .entry)) (now (runs .entry)) (now (undo .entry))) event (now (cells .entry)) (now (room .entry)) ⌝ }
-    ensures { λ d. ⌜ now (cells .exit)
-        ≡ cellsAfter scheme (recordBy counts (now (live .entry)) (now (runs .entry)) (now (undo .entry))) event (now (cells .entry)) (now (room .entry)) ⌝ }
-    ensures { λ d. ⌜ now (room .exit)
-        ≡ roomAfter scheme (recordBy counts (now (live .entry)) (now (runs .entry)) (now (undo .entry))) event (now (cells .entry)) (now (room .entry)) ⌝ }
+    requires { ⌜ refusal (viewBy counts (now live) (now runs) (now undo)) (callOf scheme event (now cells) (now room)) ≡ 0 ⌝ }
+    ensures { λ d. ⌜ Leaves scheme (recordBy counts (now (live .entry)) (now (runs .entry)) (now (undo .entry))) event
+        (now (cells .entry)) (now (room .entry))
+        (lentCall d (now (live .exit)) (now (runs .exit)) (now (undo .exit))) (now (cells .exit)) (now (room .exit)) ⌝ }
 {
-    let number = refused(counts, live, runs, undo, cells, room, event);
-    if number != 0 {
-        return LentCall {
-            number: number,
-            answers: 0,
-            counts: counts,
-        };
-    }
     let entries = tidy::tidy(counts, live, runs, undo);
     let c = Course {
         counts: counts.accepts(event.kind, event.number),
@@ -235,6 +225,32 @@ pub fn call_lent(
         answers: d.answers,
         counts: next,
     }
+}
+
+// A call on a record whose rows are lent: refused with nothing touched, or carried out.
+pub fn call_lent(
+    scheme: Scheme,
+    counts: Counts,
+    live: &mut Live,
+    runs: &mut Runs,
+    undo: &mut Undone,
+    cells: &mut [u32],
+    event: Event,
+    room: &mut [u32],
+) -> LentCall
+    ensures { λ d. ⌜ Leaves scheme (recordBy counts (now (live .entry)) (now (runs .entry)) (now (undo .entry))) event
+        (now (cells .entry)) (now (room .entry))
+        (lentCall d (now (live .exit)) (now (runs .exit)) (now (undo .exit))) (now (cells .exit)) (now (room .exit)) ⌝ }
+{
+    let number = refused(counts, live, runs, undo, cells, room, event);
+    if number != 0 {
+        return LentCall {
+            number: number,
+            answers: 0,
+            counts: counts,
+        };
+    }
+    carry_out(scheme, counts, live, runs, undo, cells, event, room)
 }
 
 // One call by a scheme, of any record, any lent cells, any event and any lent answer room: refused with nothing touched, or carried out. The

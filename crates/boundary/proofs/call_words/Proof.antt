@@ -27,8 +27,8 @@ returns c = let a = c .before .before .before .before .before .before .before .b
     let d = c .before .before .before .before .call-lent .ensures in
     let e = c .before .before .before .before .before .before .before .before .before .before .event-of .ensures in (
       d .0 ∙ ap (λ (v : Event). called (a .scheme) r v (a .cells .now) (a .room .now)) e,
-      d .1 .0 ∙ ap (λ (v : Event). cellsAfter (a .scheme) r v (a .cells .now) (a .room .now)) e,
-      d .1 .1 ∙ ap (λ (v : Event). roomAfter (a .scheme) r v (a .cells .now) (a .room .now)) e,
+      d .1 ∙ ap (λ (v : Event). cellsAfter (a .scheme) r v (a .cells .now) (a .room .now)) e,
+      d .2 ∙ ap (λ (v : Event). roomAfter (a .scheme) r v (a .cells .now) (a .room .now)) e,
     )
 
 pub call-words-spec : {M : Type 1} → statement M

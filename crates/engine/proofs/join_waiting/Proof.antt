@@ -1,6 +1,5 @@
-use Prim.Native.Nat.{ℕ, _+_, _*_}
-use mathlib.Core.Path.{_≡_, refl, ap, _∙_}
-use mathlib.Core.List.{List}
+use Prim.Native.Nat.{_+_, _*_}
+use mathlib.Core.Path.{_≡_, ap, _∙_}
 use lib.ListN.{length}
 use lib.Seq.{sets}
 use Rattle.rows.proofs.Reading.{laid-whole}

@@ -2,7 +2,7 @@ use Rattle.engine.specs.Work.{requeuedAll}
 use mathlib.Core.Path.{ap, refl, _∙_}
 use Rattle.engine.proofs.Staying.{kept-at}
 use native.Mathlib.Omega.{arith}
-use Prim.Native.Nat.{ℕ, _≤_, _+_}
+use Prim.Native.Nat.{_≤_, _+_}
 use mathlib.Core.Path.{refl, sym, subst}
 use Rattle.engine.specs.declared.course.Course.{Course}
 use Rattle.engine.proofs.Deciding.{aborted}

@@ -1,8 +1,7 @@
 use Rattle.engine.specs.Work.{Kept}
 use Rattle.engine.proofs.Staying.{kept-both}
 use native.Mathlib.Omega.{arith}
-use Prim.Native.Nat.{ℕ, _≤_, _<_}
-use mathlib.Core.Path.{_≡_, refl, sym, ap, _∙_}
+use mathlib.Core.Path.{_≡_, refl, sym, _∙_}
 use mathlib.Core.Logic.{inl, inr}
 use borrow.Author.Tests.{not-true, not-false}
 use lib.ListN.{length}

@@ -1,17 +1,17 @@
 use Prim.Native.Nat.{ℕ, _*_, _≤_, _<_}
-use mathlib.Core.Path.{_≡_, refl, sym, ap, _∙_, subst}
+use mathlib.Core.Path.{sym, ap, _∙_, subst}
 use mathlib.Core.Bool.{not}
 use mathlib.Core.List.{List}
 use lib.Seq.{sets}
 use Rattle.record.specs.View.{numbersFrom}
 use Rattle.record.specs.Widths.{runWidth}
 use Rattle.rows.specs.Rows.{begunRow}
-use Rattle.engine.specs.Work.{Small, joinedBy, settledAtOnce}
+use Rattle.engine.specs.Work.{joinedBy, settledAtOnce}
 use Rattle.engine.specs.declared.course.Course.{Course}
 use Rattle.model.specs.Operations.{pick}
 use Rattle.engine.proofs.Staying.{kept-taking}
 use native.Mathlib.Omega.{arith}
-use Rattle.engine.proofs.Placing.{Facts, take-first-left}
+use Rattle.engine.proofs.Placing.{take-first-left}
 use Rattle.engine.proofs.Draining.{entries-few, small-taking}
 use borrow.Author.Needs.{needs}
 use Rattle.engine.proofs.drain.take_first.Statement.{statement}

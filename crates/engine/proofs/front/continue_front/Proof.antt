@@ -1,9 +1,8 @@
 use native.Mathlib.Omega.{arith}
-use Prim.Native.Nat.{ℕ, _≤_}
+use Prim.Native.Nat.{_≤_}
 use mathlib.Core.Path.{_≡_, refl, ap, _∙_}
 use lib.Seq.{sets}
 use lib.ListN.{length}
-use Rattle.operations.proofs.Turns.{unmapped}
 use Rattle.rows.proofs.Reading.{laid-whole}
 use Rattle.engine.proofs.Deciding.{continued, entries-by-row}
 use borrow.Author.Needs.{needs}

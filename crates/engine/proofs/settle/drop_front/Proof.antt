@@ -1,6 +1,6 @@
 use Rattle.engine.proofs.Staying.{kept-at}
 use native.Mathlib.Omega.{arith}
-use Prim.Native.Nat.{ℕ, _≤_, _+_}
+use Prim.Native.Nat.{_≤_, _+_}
 use mathlib.Core.Path.{_≡_, refl, sym, subst}
 use Rattle.engine.specs.Work.{Fair}
 use Rattle.engine.specs.declared.course.Course.{Course}

@@ -3,7 +3,7 @@ use mathlib.Core.Path.{ap, refl, sym, _∙_}
 use Rattle.engine.specs.Work.{withAnswers}
 use Rattle.engine.specs.declared.course.Course.{Course}
 use native.Mathlib.Omega.{arith}
-use mathlib.Core.Path.{_≡_, refl}
+use mathlib.Core.Path.{refl}
 use Rattle.engine.proofs.Settling.{fronted-none, fronted-some}
 use borrow.Author.Needs.{needs}
 use Rattle.engine.proofs.settle.new_front.Statement.{statement}

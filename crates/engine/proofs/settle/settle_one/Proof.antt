@@ -2,8 +2,7 @@ use mathlib.Core.Path.{ap, refl, _∙_}
 use Prim.Native.Nat.{_+_}
 use Rattle.engine.specs.declared.course.Course.{Course}
 use Rattle.engine.proofs.Staying.{kept-both, kept-at}
-use native.Mathlib.Omega.{arith}
-use mathlib.Core.Path.{_≡_, refl}
+use mathlib.Core.Path.{refl}
 use Rattle.engine.proofs.Settling.{settled-one, settled-fair}
 use borrow.Author.Needs.{needs}
 use Rattle.engine.proofs.settle.settle_one.Statement.{statement}

@@ -1,7 +1,6 @@
 use Rattle.engine.specs.Work.{Kept}
 use Rattle.engine.proofs.Staying.{kept-both}
 use native.Mathlib.Omega.{arith}
-use Prim.Native.Nat.{ℕ}
 use mathlib.Core.Path.{_≡_, refl, sym, _∙_}
 use mathlib.Core.Logic.{inl, inr}
 use lib.ListN.{length}

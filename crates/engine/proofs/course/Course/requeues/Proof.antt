@@ -1,7 +1,7 @@
 use native.Mathlib.Omega.{arith}
 use mathlib.Core.Path.{ap, _∙_}
-use Prim.Native.Nat.{ℕ, _+_, _-_}
-use Rattle.record.specs.Ends.{capped, endsAt}
+use Prim.Native.Nat.{ℕ, _-_}
+use Rattle.record.specs.Ends.{endsAt}
 use Rattle.record.specs.declared.Counts.{Counts}
 use Rattle.engine.specs.declared.course.Course.{Course}
 use borrow.Author.Needs.{needs}

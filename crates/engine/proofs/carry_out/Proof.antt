@@ -1,0 +1,81 @@
+use mathlib.Core.Path.{_≡_}
+use borrow.Author.Tests.{not-false}
+use Rattle.model.specs.Refusals.{refusal, sound}
+use Rattle.model.proofs.Passing.{passed}
+use Rattle.refusals.specs.Rest.{callOf}
+use Rattle.record.specs.View.{view}
+use Rattle.operations.proofs.Turns.{unmapped}
+use Rattle.engine.specs.Called.{recordBy}
+use Rattle.engine.proofs.Calling.{ready, accepted-call}
+use borrow.Author.Needs.{needs}
+use Rattle.engine.proofs.carry_out.Statement.{statement}
+use Rattle.engine.proofs.carry_out.Tie as tie
+use Rattle.engine.proofs.carry_out.Reads as reads
+use Rattle.engine.proofs.carry_out.Lts as lts
+use Rattle.engine.proofs.accept.Reads as accept-reads
+use Rattle.record.proofs.shift.Reads as shift-reads
+use Rattle.tidy.proofs.tidy.Reads as tidy-reads
+use Rattle.record.proofs.Counts.accepts.Reads as accepts-reads
+
+tidy-requires : tie.Need-tidy-requires
+tidy-requires c κs = search needs
+
+accepts-requires : tie.Need-accepts-requires
+accepts-requires c κs = search needs
+
+accept-requires : tie.Need-accept-requires
+accept-requires c κs = let a = c .before .before .before .before .before .before .before .before .before .before .before .before .args in
+    let r = recordBy (a .counts) (a .live .now) (a .runs .now) (a .undo .now) in
+    let t = c .before .before .before .before .before .before .tidy in
+    let z : refusal (view r) (callOf (a .scheme) (a .event) (a .cells .now) (a .room .now)) ≡ 0 = c .before .before .before .before .before .before .before .before .before .before .before .before .pre in (
+      view r,
+      ready (a .scheme) r (a .event) (a .cells .now) (a .room .now) (t .result) _ (c .before .before .before .before .before .accepts .result) (t .last .1 .0) (t .last .1 .1 .0) (t .last .1 .1 .1 .0) z
+          (t .ensures (search needs) (search needs) (search needs) (not-false (sound (view r)) (passed (view r) (callOf (a .scheme) (a .event) (a .cells .now) (a .room .now)) z .one)))
+          (search (unmapped, c .before .before .before .before .before .before .before .before .before .before .before .before .good .1 .1 .1 .1 .1 .1 .0 .1)) (c .before .before .before .before .before .accepts .ensures),
+    )
+
+mul-shift : tie.Need-mul-shift
+mul-shift c = search needs
+
+add-shift : tie.Need-add-shift
+add-shift c = search needs
+
+add-shift-2 : tie.Need-add-shift-2
+add-shift-2 c = search needs
+
+mul-shift-2 : tie.Need-mul-shift-2
+mul-shift-2 c = search needs
+
+shift-requires : tie.Need-shift-requires
+shift-requires c κs = search needs
+
+same-length : tie.Need-same-length
+same-length c = search needs
+
+same-length-2 : tie.Need-same-length-2
+same-length-2 c = search needs
+
+returns : tie.Need-returns
+unfolding accept-requires
+returns c = let a = c .before .before .before .before .before .before .before .before .before .before .before .before .before .before .before .before .before .before .before .before .before .before .before .args in
+    let r = recordBy (a .counts) (a .live .now) (a .runs .now) (a .undo .now) in
+    let d = c .before .before .before .before .before .before .before .before .before .before .accept in
+    let ok = accept-requires (c .before .before .before .before .before .before .before .before .before .before .before) (d .lifetimes) in
+    accepted-call (a .scheme) r (a .event) (a .cells .now) (a .room .now) (d .last .1 .0) (c .before .shift .last .0) (d .last .1 .1 .0) (d .last .1 .1 .1 .0) (d .last .1 .1 .1 .1 .1 .0) (d .last .1 .1 .1 .1 .0) (c .before .before .before .before .before .before .before .before .before .before .before .before .before .before .before .before .accepts .result) (d .result)
+    (c .before .before .before .before .before .before .before .before .before .before .before .before .before .before .before .before .before .before .before .before .before .before .before .pre) (d .ensures .0 (view r) (ok .1)) (d .ensures .1 .0) (c .before .shift .ensures) (c .before .before .before .before .before .before .before .before .before .before .before .before .before .before .before .before .accepts .ensures) (d .ensures .1 .1 .0) (d .ensures .1 .1 .1)
+
+pub carry-out-spec : {M : Type 1} → statement M
+carry-out-spec =
+    tie.close
+    (tie.spec
+    tidy-requires
+    accepts-requires
+    accept-requires
+    mul-shift
+    add-shift
+    add-shift-2
+    mul-shift-2
+    shift-requires
+    same-length
+    same-length-2
+    returns)
