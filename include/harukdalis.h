@@ -46,7 +46,10 @@ extern "C" {
 #define HARUKDALIS_MULTI 1u
 #define HARUKDALIS_LAST 2u
 
-/* Codes of an operation on a cell c with an amount v. One that does not fail gives c's content after it. */
+/*
+ * Codes of an operation on a cell c with an amount v. One that does not fail gives c's content after it, one that fails
+ * the content that it found.
+ */
 #define HARUKDALIS_READ 1u  /* nothing; v is 0 */
 #define HARUKDALIS_SET 2u   /* c becomes v */
 #define HARUKDALIS_ADD 3u   /* c + v; fails above TOP */
@@ -70,11 +73,18 @@ extern "C" {
 #define HARUKDALIS_OPERATION_AMOUNT 2u
 #define HARUKDALIS_OPERATION_WORDS 3u
 
-/* Places of an answer's words. Answer i of a call, from 0, starts at word i * ANSWER_WORDS of the room. */
+/*
+ * Places of an answer's words. Answer i of a call, from 0, starts at word i * ANSWER_WORDS of the room.
+ *
+ * Where the place is 0 there is a number for each operation of the fragment: the cell's content after it. Else the
+ * transaction failed, all that it changed is taken back, and the count is 1: the number is the content that the failing
+ * operation found in its cell. Earlier changes of its own transaction are in it, although they are taken back.
+ * docs/INTEGRATION.md says when to show it.
+ */
 #define HARUKDALIS_ANSWER_TRANSACTION 0u
 #define HARUKDALIS_ANSWER_DEPENDENCE 1u /* 0, or the number that must commit for this answer to hold */
 #define HARUKDALIS_ANSWER_PLACE 2u      /* 0, or the place 1 to 8 of the operation that failed */
-#define HARUKDALIS_ANSWER_COUNT 3u      /* how many numbers follow, 0 to 8 */
+#define HARUKDALIS_ANSWER_COUNT 3u      /* how many numbers follow, at most 8; 1 where the place is not 0 */
 #define HARUKDALIS_ANSWER_NUMBERS 4u    /* eight words; those beyond the count are 0 */
 
 /* What a call returns: the first that applies. Every refusal leaves all as it was and sends no answer. */

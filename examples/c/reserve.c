@@ -67,7 +67,8 @@ static void print_answer(const uint32_t *answer)
         printf(", if %lu commits", (unsigned long)answer[HARUKDALIS_ANSWER_DEPENDENCE]);
     }
     if (answer[HARUKDALIS_ANSWER_PLACE] != 0) {
-        printf(": failed at operation %lu\n", (unsigned long)answer[HARUKDALIS_ANSWER_PLACE]);
+        printf(": failed at operation %lu, which found %lu\n", (unsigned long)answer[HARUKDALIS_ANSWER_PLACE],
+               (unsigned long)answer[HARUKDALIS_ANSWER_NUMBERS]);
         return;
     }
     printf(":");
@@ -188,9 +189,9 @@ int main(void)
     call("4 is aborted", decision(HARUKDALIS_ABORT, 4), HARUKDALIS_ACCEPTED, 1);
     expect_answer(0, 6, 0, 0, 2, 40);
 
-    /* All of a failed transaction is taken back: the wipers too. */
+    /* All of a failed transaction is taken back: the wipers too. Its answer tells what the failing operation found. */
     call("7 sells 10 wipers and 2 pads", fragment(7, 0, too_much, 2), HARUKDALIS_ACCEPTED, 1);
-    expect_answer(0, 7, 0, 2, 0, 0);
+    expect_answer(0, 7, 0, 2, 1, 1);
     call("4's abort comes again", decision(HARUKDALIS_ABORT, 4), HARUKDALIS_NOT_LIVE, 0);
 
     printf("shelves:");

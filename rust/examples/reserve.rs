@@ -48,7 +48,9 @@ impl Depot {
                 write!(self.told, ", if {number} commits")?;
             }
             match outcome {
-                Outcome::Failed { place } => writeln!(self.told, ": failed at operation {place}")?,
+                Outcome::Failed { place, found } => {
+                    writeln!(self.told, ": failed at operation {place}, which found {found}")?;
+                }
                 Outcome::Numbers(numbers) => {
                     let numbers: Vec<_> = numbers.iter().map(u32::to_string).collect();
                     writeln!(self.told, ": {}", numbers.join(" "))?;
@@ -114,9 +116,10 @@ pub fn story() -> Result<String, Box<dyn Error>> {
     // 4 gives its pads back, 6 is requeued, runs again and finds enough.
     depot.call("4 is aborted", &Event::abort(4), Ok(&[(6, None, numbers(&[40, 1]))]))?;
 
-    // All of a failed transaction is taken back: the wipers too.
+    // All of a failed transaction is taken back: the wipers too. Its answer tells what the failing operation found.
     let too_much = Event::single(7, &[Op::take(WIPERS, 10), Op::take(PADS, 2)]);
-    depot.call("7 sells 10 wipers and 2 pads", &too_much, Ok(&[(7, None, Outcome::Failed { place: 2 })]))?;
+    let failed = Outcome::Failed { place: 2, found: 1 };
+    depot.call("7 sells 10 wipers and 2 pads", &too_much, Ok(&[(7, None, failed)]))?;
     depot.call("4's abort comes again", &Event::abort(4), Err(Refusal::NotLive))?;
 
     let shelves = depot.cells.map(|content| content.to_string());

@@ -20,10 +20,13 @@ pub struct Answer {
 /// What an answer tells.
 #[derive(Clone, Copy, Debug, PartialEq, Eq, Hash)]
 pub enum Outcome<'a> {
-    /// The transaction failed: this operation, 1 to 8, could not be done, and all that it changed is taken back.
+    /// The transaction failed: one of its operations could not be done, and all that it changed is taken back.
     Failed {
-        /// The place of the operation in its fragment, from 1.
+        /// The place of that operation in its fragment, 1 to 8.
         place: u32,
+        /// The content that it found in its cell. Earlier changes of its own transaction are in it, although they are
+        /// taken back. It is no more certain than the answer: see [`Answer::dependence`].
+        found: u32,
     },
     /// A number for each operation of the fragment, the cell's content after it.
     Numbers(&'a [u32]),
@@ -54,11 +57,11 @@ impl Answer {
         }
     }
 
-    /// What it tells: where the transaction failed, or its numbers.
+    /// What it tells: where the transaction failed and what was found there, or its numbers.
     pub fn outcome(&self) -> Outcome<'_> {
         match self.words[PLACE] {
             0 => Outcome::Numbers(&self.words[NUMBERS..NUMBERS + MOST_OPERATIONS.min(self.words[COUNT] as usize)]),
-            place => Outcome::Failed { place },
+            place => Outcome::Failed { place, found: self.words[NUMBERS] },
         }
     }
 }

@@ -14,7 +14,8 @@ const LAST: u32 = 2;
 // Where the operations start in an event's words.
 const OPERATIONS: usize = 5;
 
-/// One operation on a cell. One that does not fail gives one number, the cell's content after it.
+/// One operation on a cell. One that does not fail gives one number, the cell's content after it; one that fails gives
+/// the content that it found.
 #[derive(Clone, Copy, Debug, PartialEq, Eq, Hash)]
 pub struct Op {
     code: u32,

@@ -34,6 +34,10 @@
 //! let sold = answers.next().unwrap();
 //! assert_eq!((sold.transaction(), sold.outcome()), (2, Outcome::Numbers(&[1])));
 //! assert_eq!(cells, [1, 10]);
+//!
+//! // The next sale wants 2. Its answer tells the clerk which operation failed, and that there is 1.
+//! let mut answers = engine.call(&mut cells, &Event::single(3, &[Op::take(0, 2)]), &mut room)?;
+//! assert_eq!(answers.next().unwrap().outcome(), Outcome::Failed { place: 1, found: 1 });
 //! # Ok::<(), Refusal>(())
 //! ```
 //!

@@ -23,7 +23,7 @@ impl Depot {
     fn call_by(&mut self, scheme: Scheme, event: Event) -> Result<Vec<Told>, Refusal> {
         let answers = self.engine.call_by(scheme, &mut self.cells, &event, &mut self.room)?;
         let told = |outcome: Outcome<'_>| match outcome {
-            Outcome::Failed { place } => (place, vec![]),
+            Outcome::Failed { place, found } => (place, vec![found]),
             Outcome::Numbers(numbers) => (0, numbers.to_vec()),
         };
         let length = answers.len();
@@ -42,8 +42,8 @@ fn one(transaction: u32, dependence: u32, numbers: &[u32]) -> Result<Vec<Told>, 
     Ok(vec![(transaction, dependence, 0, numbers.to_vec())])
 }
 
-fn failed(transaction: u32, place: u32) -> Result<Vec<Told>, Refusal> {
-    Ok(vec![(transaction, 0, place, vec![])])
+fn failed(transaction: u32, place: u32, found: u32) -> Result<Vec<Told>, Refusal> {
+    Ok(vec![(transaction, 0, place, vec![found])])
 }
 
 const NONE: Result<Vec<Told>, Refusal> = Ok(vec![]);
@@ -87,7 +87,7 @@ fn p4_p5_a_shelf_gives_what_it_has_and_no_more() {
     let mut few = depot(&[5, 10]);
     assert_eq!(few.call(Event::single(1, &[Op::take(1, 10)])), one(1, 0, &[0]));
     let mut many = depot(&[5, 10]);
-    assert_eq!(many.call(Event::single(1, &[Op::take(1, 11)])), failed(1, 1));
+    assert_eq!(many.call(Event::single(1, &[Op::take(1, 11)])), failed(1, 1, 10));
     assert_eq!(many.cells, [5, 10]);
 }
 
@@ -95,7 +95,7 @@ fn p4_p5_a_shelf_gives_what_it_has_and_no_more() {
 fn p6_a_full_shelf_takes_nothing_more() {
     let mut depot = depot(&[TOP]);
     assert_eq!(depot.call(Event::single(1, &[Op::add(0, 0)])), one(1, 0, &[TOP]));
-    assert_eq!(depot.call(Event::single(2, &[Op::add(0, 1)])), failed(2, 1));
+    assert_eq!(depot.call(Event::single(2, &[Op::add(0, 1)])), failed(2, 1, TOP));
 }
 
 #[test]
@@ -209,7 +209,7 @@ fn p9_an_unfinished_or_failed_front_is_not_committed() {
     let mut depot = depot(&[5, 10]);
     assert_eq!(depot.call(Event::multi(1, 1, false, &[Op::read(0)])), one(1, 0, &[5]));
     assert_eq!(depot.call(Event::commit(1)), Err(Refusal::NotFinished));
-    assert_eq!(depot.call(Event::multi(1, 1, true, &[Op::add(0, 1), Op::take(1, 11)])), failed(1, 2));
+    assert_eq!(depot.call(Event::multi(1, 1, true, &[Op::add(0, 1), Op::take(1, 11)])), failed(1, 2, 10));
     assert_eq!(depot.cells, [5, 10]);
     assert_eq!(depot.call(Event::commit(1)), Err(Refusal::Failed));
     assert_eq!(depot.call(Event::abort(1)), NONE);
@@ -231,10 +231,28 @@ fn each_operation_does_what_its_name_says() {
     assert_eq!(depot.call(Event::single(1, &all)), one(1, 0, &[5, 7, 10, 6, 6, 6, 9, 2]));
     assert_eq!(depot.cells, [2, 10]);
     for (number, op) in [(2, Op::take(0, 3)), (3, Op::need(0, 3)), (4, Op::match_(0, 3)), (5, Op::add(0, TOP))] {
-        assert_eq!(depot.call(Event::single(number, &[Op::set(1, 1), op])), failed(number, 2), "{op:?}");
+        assert_eq!(depot.call(Event::single(number, &[Op::set(1, 1), op])), failed(number, 2, 2), "{op:?}");
     }
     assert_eq!(depot.call(Event::single(6, &[Op::raise(0, 1), Op::lower(0, 3)])), one(6, 0, &[2, 2]));
     assert_eq!(depot.cells, [2, 10]);
+}
+
+/// The content that the failing operation saw, although what its own transaction changed is taken back.
+#[test]
+fn what_a_failing_operation_found() {
+    let mut depot = depot(&[5, 10]);
+    assert_eq!(depot.call(Event::single(1, &[Op::take(1, 4), Op::take(1, 7)])), failed(1, 2, 6));
+    assert_eq!(depot.cells, [5, 10]);
+    // Changes of earlier fragments too, which the failing one takes back.
+    assert_eq!(depot.call(Event::multi(2, 1, false, &[Op::take(1, 8)])), one(2, 0, &[2]));
+    assert_eq!(depot.call(Event::multi(2, 1, true, &[Op::take(1, 2), Op::need(1, 1)])), failed(2, 2, 0));
+    assert_eq!((depot.cells[1], depot.call(Event::abort(2))), (10, NONE));
+    // Behind a front what is found is no more certain than the answer: 4 and 5 find 2, and 10 once 3 is aborted.
+    assert_eq!(depot.call(Event::multi(3, 1, true, &[Op::take(1, 8)])), one(3, 0, &[2]));
+    assert_eq!(depot.call(Event::single(4, &[Op::need(1, 11)])), NONE);
+    assert_eq!(depot.call(Event::multi(5, 1, true, &[Op::take(1, 12)])), Ok(vec![(5, 3, 1, vec![2])]));
+    let again = Ok(vec![(4, 0, 1, vec![10]), (5, 0, 1, vec![10])]);
+    assert_eq!(depot.call(Event::abort(3)), again);
 }
 
 #[test]

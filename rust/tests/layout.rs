@@ -141,7 +141,8 @@ fn words_of_this_crate() -> BTreeMap<String, u64> {
     };
     put("ANSWER_TRANSACTION", only(&|at| with(at, 7).transaction() == 7));
     put("ANSWER_DEPENDENCE", only(&|at| with(at, 7).dependence() == Some(7)));
-    put("ANSWER_PLACE", only(&|at| with(at, 7).outcome() == Outcome::Failed { place: 7 }));
+    let place = only(&|at| with(at, 7).outcome() == Outcome::Failed { place: 7, found: 0 });
+    put("ANSWER_PLACE", place);
     let count = only(&|at| with(at, 7).outcome() == Outcome::Numbers(&[0; 7]));
     put("ANSWER_COUNT", count);
     let first = |at: usize| {
@@ -150,6 +151,13 @@ fn words_of_this_crate() -> BTreeMap<String, u64> {
         at != count && Answer::from_words(words).outcome() == Outcome::Numbers(&[7])
     };
     put("ANSWER_NUMBERS", only(&first));
+    // What a failed one found stands where the first number does.
+    let of_failed = |at: usize| {
+        let mut words = with(place, 7).words();
+        words[at] = 9;
+        Answer::from_words(words).outcome() == Outcome::Failed { place: 7, found: 9 }
+    };
+    assert_eq!(only(&of_failed), only(&first));
     found
 }
 

@@ -240,12 +240,12 @@ fn records_are_their_words() {
 fn answers_are_read_from_any_room() {
     let mut words = [0; 40];
     words[..6].copy_from_slice(&[9, 0, 0, 2, 11, 12]);
-    words[16..20].copy_from_slice(&[10, 9, 3, 0]);
+    words[16..21].copy_from_slice(&[10, 9, 3, 1, 6]);
     let answers: Vec<Answer> = Answers::in_room(&words, 2).collect();
     assert_eq!((answers[0].transaction(), answers[0].dependence()), (9, None));
     assert_eq!(answers[0].outcome(), Outcome::Numbers(&[11, 12]));
     assert_eq!((answers[1].transaction(), answers[1].dependence()), (10, Some(9)));
-    assert_eq!(answers[1].outcome(), Outcome::Failed { place: 3 });
+    assert_eq!(answers[1].outcome(), Outcome::Failed { place: 3, found: 6 });
     assert_eq!(answers[1].words(), words[16..32]);
     let lengths = [0, 1, 2, 3, usize::MAX].map(|count| Answers::in_room(&words, count).len());
     assert_eq!(lengths, [0, 1, 2, 2, 2], "no more than the room has");

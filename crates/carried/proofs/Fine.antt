@@ -6,7 +6,7 @@ use mathlib.Core.Bool.{Bool, true, false, _&&_}
 use mathlib.Core.List.{List, [], _∷_, _++_, map}
 use lib.Dec.{eqb}
 use lib.ListN.{length, length-append, length-take}
-use Rattle.model.specs.Operations.{Cells, operate, put, multi, operations}
+use Rattle.model.specs.Operations.{Cells, operate, put, multi, operations, tells}
 use Rattle.model.specs.Transactions.{Reply, Held, Sent, NoReply, Uncommitted, Waiting, Engine, Answer, answer}
 use Rattle.model.specs.Steps.{undone, noted, Ran, runFrom, run, begun, again, oneCoordinator, nearest, mayTake, Place, placed, Queues, sending, drain, joined, continued, arrived, heldBy, sent, settled, committed, requeued, aborted}
 use Rattle.model.specs.Refusals.{Request, Arrive, Commit, Abort, request, taken}
@@ -43,10 +43,10 @@ run-few p (o ∷ os) cs ns us =
     elim (operate o cs)
     as (λ d. length (elim d as (λ _. Ran) [
       | Number y ↦ runFrom (suc p) os (put o y cs) (ns ++ (y ∷ [])) (noted o cs us)
-      | Fails ↦ record { cells = undone us cs; outcome = record { place = p; numbers = [] }; undo = [] }
+      | Fails x ↦ record { cells = undone us cs; outcome = tells p (Fails x); undo = [] }
     ] .outcome .numbers) ≤ length ns + suc (length os)) [
       | Number y ↦ omega (arith, run-few (suc p) os (put o y cs) (ns ++ (y ∷ [])) (noted o cs us), length-append ns (y ∷ []))
-      | Fails ↦ omega arith
+      | Fails x ↦ omega arith
     ]
 
 pub run-small : (f : Fragment) (cs : Cells) (us : List Undo) → length (f .row) ≡ 8 → length (run f cs us .outcome .numbers) ≤ 8

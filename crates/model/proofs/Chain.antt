@@ -35,7 +35,7 @@ lives fs (u ∷ us) = txOf fs u ∷ lives [] us
 -- nothing failed
 abbrev pub Fine : Trial → Type 0
 Fine (Done cs ns) = Unit {0}
-Fine (Broke p) = ⊥
+Fine (Broke p x) = ⊥
 
 -- the last of a transaction's fragments
 abbrev pub latest : Fragment → List Fragment → Fragment
@@ -171,7 +171,7 @@ alone u (v ∷ us) r f = absurd (true≢false (sym (r .0) ∙ f))
 
 fine-of : (f : Fragment) (t : Trial) → Placed t → finished (stateAfter f (told t)) ≡ false → Fine t
 fine-of f (Done cs ns) p h = tt
-fine-of f (Broke q) p h =
+fine-of f (Broke q x) p h =
     absurd (true≢false (sym (ap {B = Bool} (λ (x : Bool). finished (elim x as (λ _. State) [ true ↦ elim (last f) [ true ↦ Finished | false ↦ Running ] | false ↦ Failed ])) (ne-eqb q 0 (λ e. omega arith))) ∙ h))
 
 -- a fragment f run to r, where u's entries led back to b: what u is afterwards, if f by itself came to t
@@ -228,7 +228,7 @@ through-snoc r (g ∷ fs) f = through-snoc (next r g) fs f
 
 next-fine : (b : Cells) (r : Trial) (f : Fragment) → Fine r → next r f ≡ trial f (orElse b r)
 next-fine b (Done cs ns) f h = refl
-next-fine b (Broke p) f h = absurd h
+next-fine b (Broke p x) f h = absurd h
 
 -- another fragment of the front
 pub again-entry : (b : Cells) (fs : List Fragment) (u : Uncommitted) (f : Fragment) (cs : Cells) → Entry b fs u → effect (txOf fs u) b ≡ cs → finished (u .state) ≡ false

@@ -8,7 +8,7 @@ use mathlib.Core.List.{List, [], _∷_, _++_, map, append-assoc}
 use lib.Dec.{leb, ltb, eqb}
 use lib.ListN.{length, take, length-append, length-map, length-take}
 use Rattle.model.specs.Limits.{mostOperations, mostFragments, depth, mostLive}
-use Rattle.model.specs.Operations.{Cells, Outcome, operate, put, writes, content, multi, last, operations}
+use Rattle.model.specs.Operations.{Cells, Outcome, operate, put, writes, content, multi, last, operations, tells}
 use Rattle.model.specs.Transactions.{State, Running, Finished, Failed, finished, Reply, Held, Sent, NoReply, holds, Uncommitted, Waiting, numbers, Answer, answer, front}
 use Rattle.model.specs.Steps.{noted, Ran, runFrom, run, stateAfter, begun, again, oneCoordinator, nearest, lastFinished, mayTake, Place, placed, Queues, sending, drain, joined, continued, heldBy, sent, settled, committed, requeued, aborted, undone}
 use Rattle.model.specs.Refusals.{every, inside, formed, storable, behind, ready, fits, isState, isReply}
@@ -41,12 +41,12 @@ run-left ct p (o ∷ os) cs ns us h k e a =
     as (λ d. Left ct (length us + suc (length os))
     (elim d [
       | Number y ↦ runFrom (suc p) os (put o y cs) (ns ++ (y ∷ [])) (noted o cs us)
-      | Fails ↦ record { cells = undone us cs; outcome = record { place = p; numbers = [] }; undo = [] }
+      | Fails x ↦ record { cells = undone us cs; outcome = tells p (Fails x); undo = [] }
     ])) [
       | Number y ↦
           let x = run-left ct (suc p) os (put o y cs) (ns ++ (y ∷ [])) (noted o cs us) (and-right (ltb (o .cell) ct) _ h) (omega arith) (omega (arith, length-append ns (y ∷ []))) (noted-in (writes (o .code))) in
           record { inside = x .inside; few = omega (arith, x .few, noted-few (writes (o .code))); numbers = x .numbers; place = x .place }
-      | Fails ↦ record { inside = refl; few = omega arith; numbers = omega arith; place = omega arith }
+      | Fails x ↦ record { inside = refl; few = omega arith; numbers = omega arith; place = omega arith }
     ]
   where
     entry : Undo

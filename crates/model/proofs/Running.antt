@@ -7,7 +7,7 @@ use mathlib.Core.Path.{_≡_, refl, sym, ap, _∙_}
 use mathlib.Core.Bool.{Bool, true, false}
 use mathlib.Core.List.{List, [], _∷_, _++_, append-assoc, append-nil}
 use lib.Dec.{eqb}
-use Rattle.model.specs.Operations.{Cells, content, operate, put, writes, operations}
+use Rattle.model.specs.Operations.{Cells, content, operate, put, writes, operations, tells}
 use Rattle.model.specs.Steps.{undone, noted, Ran, runFrom, run}
 use Rattle.model.specs.declared.Op.{Op}
 use Rattle.model.specs.declared.Fragment.{Fragment}
@@ -39,15 +39,15 @@ from-earlier us p (o ∷ os) cs ns own h =
     elim (operate o cs)
     as (λ d. by (us ++ own) d ≡ withEarlier us (by own d)) [
       | Number y ↦ ap (runFrom (suc p) os (put o y cs) (ns ++ (y ∷ []))) (noted-earlier o cs us own) ∙ from-earlier us (suc p) os (put o y cs) (ns ++ (y ∷ [])) (noted o cs own) (omega arith)
-      | Fails ↦
-          (λ i. record { cells = undone-append us own cs i; outcome = record { place = p; numbers = [] }; undo = [] })
-          ∙ ap {B = Ran} (λ (b : Bool). joinedBy b us (record { cells = undone own cs; outcome = record { place = p; numbers = [] }; undo = [] })) (sym (ne-eqb p 0 (λ e. omega arith)))
+      | Fails x ↦
+          (λ i. record { cells = undone-append us own cs i; outcome = tells p (Fails x); undo = [] })
+          ∙ ap {B = Ran} (λ (b : Bool). joinedBy b us (record { cells = undone own cs; outcome = tells p (Fails x); undo = [] })) (sym (ne-eqb p 0 (λ e. omega arith)))
     ]
   where
     by : List Undo → Did → Ran
     by vs d = elim d [
       | Number y ↦ runFrom (suc p) os (put o y cs) (ns ++ (y ∷ [])) (noted o cs vs)
-      | Fails ↦ record { cells = undone vs cs; outcome = record { place = p; numbers = [] }; undo = [] }
+      | Fails x ↦ record { cells = undone vs cs; outcome = tells p (Fails x); undo = [] }
     ]
 
 pub run-earlier : (f : Fragment) (cs : Cells) (us : List Undo) → run f cs us ≡ withEarlier us (run f cs [])
@@ -62,13 +62,13 @@ from-few p (o ∷ os) cs ns us =
     elim (operate o cs)
     as (λ d. (length (by d .undo) ≤ length us + suc (length os)) × (length (by d .outcome .numbers) ≤ length ns + suc (length os))) [
       | Number y ↦ let r = from-few (suc p) os (put o y cs) (ns ++ (y ∷ [])) (noted o cs us) in (omega (arith, r .0, few (writes (o .code))), omega (arith, r .1, length-append ns (y ∷ [])))
-      | Fails ↦ (omega arith, omega arith)
+      | Fails x ↦ (omega arith, omega arith)
     ]
   where
     by : Did → Ran
     by d = elim d [
       | Number y ↦ runFrom (suc p) os (put o y cs) (ns ++ (y ∷ [])) (noted o cs us)
-      | Fails ↦ record { cells = undone us cs; outcome = record { place = p; numbers = [] }; undo = [] }
+      | Fails x ↦ record { cells = undone us cs; outcome = tells p (Fails x); undo = [] }
     ]
 
     few : (w : Bool) → length {A = Undo} (elim w [ true ↦ us ++ (record { cell = o .cell; old = content o cs } ∷ []) | false ↦ us ]) ≤ suc (length us)

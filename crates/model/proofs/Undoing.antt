@@ -6,7 +6,7 @@ use mathlib.Core.Bool.{Bool, true, false}
 use mathlib.Core.List.{List, [], _∷_, _++_}
 use lib.ListN.{set}
 use lib.Seq.{set-set, set-getD}
-use Rattle.model.specs.Operations.{Cells, content, operate, put, writes, Trial, Done, Broke, trialFrom, told}
+use Rattle.model.specs.Operations.{Cells, content, operate, put, writes, tells, Trial, Done, Broke, trialFrom, told}
 use Rattle.model.specs.Serial.{orElse}
 use Rattle.model.specs.Steps.{undone, noted, Ran, runFrom}
 use Rattle.model.specs.declared.Op.{Op}
@@ -40,22 +40,22 @@ run-agrees b p [] cs ns us h = record { tells = refl; stands = refl; back = h }
 run-agrees b p (o ∷ os) cs ns us h =
     elim (operate o cs)
     as (λ d. Agree b
-    (elim d [ Number y ↦ runFrom (suc p) os (put o y cs) (ns ++ (y ∷ [])) (noted o cs us) | Fails ↦ record { cells = undone us cs; outcome = told (Broke p); undo = [] } ])
-    (elim d [ Number y ↦ trialFrom (suc p) os (put o y cs) (ns ++ (y ∷ [])) | Fails ↦ Broke p ])) [
+    (elim d [ Number y ↦ runFrom (suc p) os (put o y cs) (ns ++ (y ∷ [])) (noted o cs us) | Fails x ↦ record { cells = undone us cs; outcome = tells p (Fails x); undo = [] } ])
+    (elim d [ Number y ↦ trialFrom (suc p) os (put o y cs) (ns ++ (y ∷ [])) | Fails x ↦ Broke p x ])) [
       | Number y ↦ run-agrees b (suc p) os (put o y cs) (ns ++ (y ∷ [])) (noted o cs us) (put-back o y cs us ∙ h)
-      | Fails ↦ record { tells = refl; stands = h; back = h }
+      | Fails x ↦ record { tells = refl; stands = h; back = h }
     ]
 
 -- the place of failure is never 0, which stands for none
 abbrev pub Placed : Trial → Type 0
 Placed (Done cs ns) = Unit {0}
-Placed (Broke p) = 0 < p
+Placed (Broke p x) = 0 < p
 
 pub trial-placed : (p : ℕ) (os : List Op) (cs : Cells) (ns : List ℕ) → 0 < p → Placed (trialFrom p os cs ns)
 unfolding trialFrom
 trial-placed p [] cs ns h = tt
 trial-placed p (o ∷ os) cs ns h =
-    elim (operate o cs) as (λ d. Placed (elim d [ Number y ↦ trialFrom (suc p) os (put o y cs) (ns ++ (y ∷ [])) | Fails ↦ Broke p ])) [
+    elim (operate o cs) as (λ d. Placed (elim d [ Number y ↦ trialFrom (suc p) os (put o y cs) (ns ++ (y ∷ [])) | Fails x ↦ Broke p x ])) [
       | Number y ↦ trial-placed (suc p) os (put o y cs) (ns ++ (y ∷ [])) (omega arith)
-      | Fails ↦ h
+      | Fails x ↦ h
     ]

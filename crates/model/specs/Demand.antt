@@ -154,7 +154,7 @@ the n [] = None
 the n (t ∷ ts) = elim (eqb (t .number) n) [ true ↦ This t | false ↦ the n ts ]
 
 -- o is "the numbers, or the place of failure, that its fragment gives directly after everything settled before it and its own transaction's earlier
--- fragments"
+-- fragments"; with a place of failure also the number that was found there: "The one-at-a-time run says so too." (02, L4)
 abbrev pub Gives : Cells → ℕ → Log → Outcome → Type 0
 Gives cs n l o = (t : Tx) × (the n l ≡ This t) × (o ≡ told (attempt t (serial (settledOf (before n l)) cs)))
 

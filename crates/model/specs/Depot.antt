@@ -1,5 +1,6 @@
 -- Document 01, "Depot cases": P1 to P9, one table. Each case: the starting cells, the events, for each of them the returned number with
--- the answers, and the cells at the end. "Cells 5 and 10 unless said". Then those of them that show the blocking scheme (02, L5).
+-- the answers, and the cells at the end. "Cells 5 and 10 unless said". Then those of them that show the blocking scheme (02, L5), and two of
+-- what a failing operation found (02, L4).
 use Prim.Native.Nat.{ℕ, _-_}
 use mathlib.Core.List.{List, [], _∷_, _++_}
 use lib.ListN.{length, replicate}
@@ -69,8 +70,8 @@ one o = o ∷ []
 abbrev gave : ℕ → ℕ → List ℕ → Answer
 gave n d ns = answer n d (record { place = 0; numbers = ns })
 
-abbrev failing : ℕ → ℕ → Answer
-failing n p = answer n 0 (record { place = p; numbers = [] })
+abbrev failing : ℕ → ℕ → ℕ → Answer
+failing n p x = answer n 0 (record { place = p; numbers = x ∷ [] })
 
 -- accepted, with one answer; accepted, with none
 abbrev ok : Answer → ℕ × List Answer
@@ -105,10 +106,10 @@ depot =
     ∷ record { cells = 5 ∷ 10 ∷ []; events = finishing 1 1 (op 4 1 1 ∷ op 4 1 1 ∷ []) ∷ abort 1 ∷ []; prints = printed (ok (gave 1 0 (9 ∷ 8 ∷ [])) ∷ quiet ∷ []) (5 ∷ 10 ∷ []) }
     -- P4 "single take 10 of cell 1: 0"
     ∷ record { cells = 5 ∷ 10 ∷ []; events = single 1 (one (op 4 1 10)) ∷ []; prints = printed (ok (gave 1 0 (0 ∷ [])) ∷ []) (5 ∷ 0 ∷ []) }
-    -- P5 "take 11: place 1, cell stays 10"
-    ∷ record { cells = 5 ∷ 10 ∷ []; events = single 1 (one (op 4 1 11)) ∷ []; prints = printed (ok (failing 1 1) ∷ []) (5 ∷ 10 ∷ []) }
+    -- P5 "take 11: place 1, cell stays 10"; amended by 02, L4: "count 1, 10"
+    ∷ record { cells = 5 ∷ 10 ∷ []; events = single 1 (one (op 4 1 11)) ∷ []; prints = printed (ok (failing 1 1 10) ∷ []) (5 ∷ 10 ∷ []) }
     -- P6 "cell TOP: add 0 gives TOP, add 1 fails"
-    ∷ record { cells = TOP ∷ []; events = single 1 (one (op 3 0 0)) ∷ single 2 (one (op 3 0 1)) ∷ []; prints = printed (ok (gave 1 0 (TOP ∷ [])) ∷ ok (failing 2 1) ∷ []) (TOP ∷ []) }
+    ∷ record { cells = TOP ∷ []; events = single 1 (one (op 3 0 0)) ∷ single 2 (one (op 3 0 1)) ∷ []; prints = printed (ok (gave 1 0 (TOP ∷ [])) ∷ ok (failing 2 1 TOP) ∷ []) (TOP ∷ []) }
     -- P7 "3 is answered 19, dependence 1"
     ∷ record { cells = 5 ∷ 10 ∷ []; events = chained; prints = printed chain (19 ∷ 10 ∷ []) }
     -- P8 "then multi 4 (coordinator 2, last, read 0): held. Commit 3: 7. Commit 1: 2 is answered, 3 not again. Commit 3: 4 is answered 19, dependence 0"
@@ -121,7 +122,7 @@ depot =
     ∷ record {
       cells = 5 ∷ 10 ∷ [];
       events = unfinished 1 1 (one (op 1 0 0)) ∷ commit 1 ∷ finishing 1 1 (one (op 4 1 11)) ∷ commit 1 ∷ [];
-      prints = printed (ok (gave 1 0 (5 ∷ [])) ∷ refused 13 ∷ ok (failing 1 1) ∷ refused 14 ∷ []) (5 ∷ 10 ∷ []);
+      prints = printed (ok (gave 1 0 (5 ∷ [])) ∷ refused 13 ∷ ok (failing 1 1 10) ∷ refused 14 ∷ []) (5 ∷ 10 ∷ []);
     }
     ∷ []
 
@@ -136,5 +137,17 @@ blocked =
       cells = 5 ∷ 10 ∷ [];
       events = chained ++ (finishing 4 2 (one (op 1 0 0)) ∷ commit 3 ∷ commit 1 ∷ commit 3 ∷ []);
       prints = printed (ok (gave 1 0 (17 ∷ [])) ∷ quiet ∷ quiet ∷ quiet ∷ refused 7 ∷ (0, gave 2 0 (18 ∷ []) ∷ gave 3 0 (19 ∷ []) ∷ []) ∷ ok (gave 4 0 (19 ∷ [])) ∷ []) (19 ∷ 10 ∷ []);
+    }
+    ∷ []
+
+-- "A failing operation now gives the number it found" (02, L4), its own transaction's changes included, which are taken back: of the 10 of cell 1
+-- it takes 4 and then 7, in one fragment and in two.
+abbrev pub found : List Case
+found =
+    record { cells = 5 ∷ 10 ∷ []; events = single 1 (op 4 1 4 ∷ op 4 1 7 ∷ []) ∷ []; prints = printed (ok (failing 1 2 6) ∷ []) (5 ∷ 10 ∷ []) }
+    ∷ record {
+      cells = 5 ∷ 10 ∷ [];
+      events = unfinished 1 1 (one (op 4 1 4)) ∷ finishing 1 1 (one (op 4 1 7)) ∷ [];
+      prints = printed (ok (gave 1 0 (6 ∷ [])) ∷ ok (failing 1 1 6) ∷ []) (5 ∷ 10 ∷ []);
     }
     ∷ []

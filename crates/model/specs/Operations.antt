@@ -45,7 +45,8 @@ writes code = getD writesRow code false
 unfoldable pub mayFail : ℕ → Bool
 mayFail code = getD failsRow code false
 
--- column "meaning", with when it fails: what a code makes of content x and amount v. What is no code fails.
+-- column "meaning", with when it fails: what a code makes of content x and amount v. What is no code fails. "A failing operation now gives
+-- the number it found" (02, L4): x.
 unfoldable pub meaning : ℕ → ℕ → ℕ → Did
 meaning code x v =
     -- read: nothing
@@ -53,17 +54,17 @@ meaning code x v =
     -- set: "cell becomes v"
     (pick (eqb code 2) (Number v)
     -- add: "cell + v", "if above TOP"
-    (pick (eqb code 3) (pick (ltb TOP (x + v)) Fails (Number (x + v)))
+    (pick (eqb code 3) (pick (ltb TOP (x + v)) (Fails x) (Number (x + v)))
     -- take: "cell − v", "if cell < v"
-    (pick (eqb code 4) (pick (ltb x v) Fails (Number (x - v)))
+    (pick (eqb code 4) (pick (ltb x v) (Fails x) (Number (x - v)))
     -- need: nothing, "if cell < v"
-    (pick (eqb code 5) (pick (ltb x v) Fails (Number x))
+    (pick (eqb code 5) (pick (ltb x v) (Fails x) (Number x))
     -- match: nothing, "if cell ≠ v"
-    (pick (eqb code 6) (pick (eqb x v) (Number x) Fails)
+    (pick (eqb code 6) (pick (eqb x v) (Number x) (Fails x))
     -- raise: "larger of cell and v"
     (pick (eqb code 7) (pick (ltb x v) (Number v) (Number x))
     -- lower: "smaller of cell and v"
-    (pick (eqb code 8) (pick (ltb v x) (Number v) (Number x)) Fails)))))))
+    (pick (eqb code 8) (pick (ltb v x) (Number v) (Number x)) (Fails x))))))))
 
 abbrev pub content : Op → Cells → ℕ
 content o cs = getD cs (o .cell) 0
@@ -86,31 +87,34 @@ last f = eqb (f .flags / 2 % 2) 1
 unfoldable pub operations : Fragment → List Op
 operations f = take (f .count) (f .row)
 
--- What an answer tells: "place of failure (0 for none)" and the numbers. A sound record may hold both.
+-- What an answer tells: "place of failure (0 for none)" and the numbers. A failed run has a place and one number; a sound record may
+-- hold any.
 pub record Outcome : Type 0 where
   pub place : ℕ
   pub numbers : List ℕ
 
--- what each case of an operation's answer tells at place p: "gives one number", or "no numbers but the place 1 to 8"
+-- What each case of an operation's answer tells at place p: "gives one number", or, failing, "the place 1 to 8 of the failing operation" with
+-- what 02, L4, says where 01 has "no numbers": "A failing operation now gives the number it found; the failed answer has count 1 and that number."
 abbrev pub tells : ℕ → Did → Outcome
 tells p (Number y) = record { place = 0; numbers = y ∷ [] }
-tells p Fails = record { place = p; numbers = [] }
+tells p (Fails x) = record { place = p; numbers = x ∷ [] }
 
--- A fragment by itself: to its end, with the cells and "one number" for each operation, or to a failing one, with its "place 1 to 8".
+-- A fragment by itself: to its end, with the cells and "one number" for each operation, or to a failing one, with its "place 1 to 8" and "the
+-- number it found".
 pub data Trial : Type 0 where
   Done : Cells → List ℕ → Trial
-  Broke : ℕ → Trial
+  Broke : ℕ → ℕ → Trial
 
 -- "operations, run in order": p is the place of the next one, ns the numbers so far
 unfoldable pub trialFrom : ℕ → List Op → Cells → List ℕ → Trial
 trialFrom p [] cs ns = Done cs ns
 trialFrom p (o ∷ os) cs ns =
-    elim (operate o cs) [ Number y ↦ trialFrom (suc p) os (put o y cs) (ns ++ (y ∷ [])) | Fails ↦ Broke p ]
+    elim (operate o cs) [ Number y ↦ trialFrom (suc p) os (put o y cs) (ns ++ (y ∷ [])) | Fails x ↦ Broke p x ]
 
 abbrev pub trial : Fragment → Cells → Trial
 trial f cs = trialFrom 1 (operations f) cs []
 
--- "its answer has no numbers but the place 1 to 8 of the failing operation"
+-- "The one-at-a-time run says so too." (02, L4): at a failing operation it tells what `tells` says
 abbrev pub told : Trial → Outcome
 told (Done cs ns) = record { place = 0; numbers = ns }
-told (Broke p) = record { place = p; numbers = [] }
+told (Broke p x) = tells p (Fails x)

@@ -20,7 +20,7 @@ pub record Tx : Type 0 where
 -- one more fragment, where nothing failed before
 abbrev pub next : Trial → Fragment → Trial
 next (Done cs ns) f = trial f cs
-next (Broke p) f = Broke p
+next (Broke p x) f = Broke p x
 
 abbrev pub through : Trial → List Fragment → Trial
 through r [] = r
@@ -33,7 +33,7 @@ attempt t cs = through (trial (t .first) cs) (t .more)
 -- the cells after an attempt that began at b: "all changes of that transaction (earlier fragments too) are taken back"
 abbrev pub orElse : Cells → Trial → Cells
 orElse b (Done cs ns) = cs
-orElse b (Broke p) = b
+orElse b (Broke p x) = b
 
 abbrev pub effect : Tx → Cells → Cells
 effect t cs = orElse cs (attempt t cs)

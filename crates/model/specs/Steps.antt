@@ -31,13 +31,14 @@ pub record Ran : Type 0 where
   pub undo : List Undo
 
 -- "A failing operation writes nothing; its transaction has failed, all changes of that transaction (earlier fragments too) are taken back at
--- once". p is the place of the next operation, ns the numbers so far, us what the transaction owns so far.
+-- once". p is the place of the next operation, ns the numbers so far, us what the transaction owns so far; x is "the number it found" (02, L4), on
+-- the cells as they stand before anything is taken back.
 unfoldable pub runFrom : ℕ → List Op → Cells → List ℕ → List Undo → Ran
 runFrom p [] cs ns us = record { cells = cs; outcome = record { place = 0; numbers = ns }; undo = us }
 runFrom p (o ∷ os) cs ns us =
     elim (operate o cs) [
       | Number y ↦ runFrom (suc p) os (put o y cs) (ns ++ tells p (Number y) .numbers) (noted o cs us)
-      | Fails ↦ record { cells = undone us cs; outcome = tells p Fails; undo = [] }
+      | Fails x ↦ record { cells = undone us cs; outcome = tells p (Fails x); undo = [] }
     ]
 
 -- run a fragment of a transaction that owns the entries us

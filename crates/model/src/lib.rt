@@ -45,10 +45,11 @@ pub struct Event {
     pub fragment: Fragment,
 }
 
-// What one operation does: "Each operation that does not fail gives one number: the cell's content after it."
+// What one operation does: "Each operation that does not fail gives one number: the cell's content after it." By 02, L4: "A failing operation
+// now gives the number it found".
 pub enum Did {
     Number(u32),
-    Fails,
+    Fails(u32),
 }
 
 // "Undo entries (cell, old number)"

@@ -9,7 +9,7 @@ use lib.ListN.{length, getD, set, take, drop, replicate, length-append, length-r
 use lib.Dec.{leb, eqb}
 use borrow.Author.Tests.{leb-true, leb-false, eq-eqb, ne-eqb}
 use lib.Seq.{take-all, take-suc, take-suc-set, set-at, drop-cons, getD-take, getD-at, getD-append-add}
-use Rattle.model.specs.Operations.{Cells, content, operate, meaning, put, writes, operations, Outcome}
+use Rattle.model.specs.Operations.{Cells, content, operate, meaning, put, writes, operations, Outcome, tells}
 use Rattle.model.specs.Steps.{undone, noted, runFrom, run}
 use Rattle.model.specs.Steps as Steps
 use Rattle.model.proofs.Undoing.{undone-append}
@@ -33,9 +33,9 @@ module _ (o : Op) (cs : Cells) (x : ℕ) (d : Did) (ex : x ≡ getD cs (o .cell)
   unfolding operated
   operated-as d′ e = λ i. record { did = (sym e ∙ did-is) i; old = ex i }
 
-  after-by : (d′ : Did) → d ≡ d′ → elim d′ as (λ _. Cells) [ Number y ↦ put o y cs | Fails ↦ cs ] ≡ afterwards o cs
+  after-by : (d′ : Did) → d ≡ d′ → elim d′ as (λ _. Cells) [ Number y ↦ put o y cs | Fails z ↦ cs ] ≡ afterwards o cs
   unfolding afterwards
-  after-by d′ e = ap {B = Cells} (λ (z : Did). elim z [ Number y ↦ put o y cs | Fails ↦ cs ]) (sym e ∙ did-is)
+  after-by d′ e = ap {B = Cells} (λ (z : Did). elim z [ Number y ↦ put o y cs | Fails z ↦ cs ]) (sym e ∙ did-is)
 
   put-by : (y : ℕ) (w : Bool) → w ≡ writes (o .code) → elim w as (λ _. Cells) [ true ↦ set cs (o .cell) y | false ↦ cs ] ≡ put o y cs
   put-by y w e = ap {B = Cells} (λ (z : Bool). elim z [ true ↦ set cs (o .cell) y | false ↦ cs ]) e
@@ -46,8 +46,8 @@ module _ (o : Op) (cs : Cells) (x : ℕ) (d : Did) (ex : x ≡ getD cs (o .cell)
   pub after-reads : (y : ℕ) → d ≡ Number y → (w : Bool) → w ≡ writes (o .code) → w ≡ false → cs ≡ afterwards o cs
   after-reads y e w ew et = put-by y false (sym et ∙ ew) ∙ after-by (Number y) e
 
-  pub after-fails : d ≡ Fails → cs ≡ afterwards o cs
-  after-fails e = after-by Fails e
+  pub after-fails : (z : ℕ) → d ≡ Fails z → cs ≡ afterwards o cs
+  after-fails z e = after-by (Fails z) e
 
 -- Rows of entries
 
@@ -171,7 +171,7 @@ module _ (p : ℕ) (o : Op) (os : List Op) (cs : Cells) (ns : List ℕ) (us : Li
   abbrev by : Did → Steps.Ran
   by d = elim d [
     | Number y ↦ runFrom (suc p) os (put o y cs) (ns ++ (y ∷ [])) (noted o cs us)
-    | Fails ↦ record { cells = undone us cs; outcome = record { place = p; numbers = [] }; undo = [] }
+    | Fails x ↦ record { cells = undone us cs; outcome = tells p (Fails x); undo = [] }
   ]
 
   pub run-by : (d : Did) → operate o cs ≡ d → runFrom p (o ∷ os) cs ns us ≡ by d
@@ -209,9 +209,9 @@ module _ (os : List Op) (cs₀ cells numbers own : List ℕ) (entries i : ℕ) (
     unfolding operated
     old-is = ap (λ (x : Operated). x .old) es
 
-    stands : (d : Did) → s .did ≡ d → ds ≡ elim d as (λ _. Cells) [ Number y ↦ put o y cells | Fails ↦ cells ]
+    stands : (d : Did) → s .did ≡ d → ds ≡ elim d as (λ _. Cells) [ Number y ↦ put o y cells | Fails x ↦ cells ]
     unfolding afterwards
-    stands d e = ed ∙ ap {B = Cells} (λ (z : Did). elim z [ Number y ↦ put o y cells | Fails ↦ cells ]) (did d e)
+    stands d e = ed ∙ ap {B = Cells} (λ (z : Did). elim z [ Number y ↦ put o y cells | Fails x ↦ cells ]) (did d e)
 
     pub going-turn : (y : ℕ) → s .did ≡ Number y → i < 8 → (numbers′ own′ : List ℕ) (entries′ : ℕ) → numbers′ ≡ set numbers i y → entries′ ≡ noteCount o entries
         → own′ ≡ noteRow o (s .old) entries own → Going os cs₀ ds numbers′ own′ entries′ (i + 1)
@@ -232,14 +232,14 @@ module _ (os : List Op) (cs₀ cells numbers own : List ℕ) (entries i : ℕ) (
               ∙ ap (λ (x : List Op). runFrom (suc i) x cells (g .ns) (g .us)) (sym next) ∙ g .rest;
         }
 
-    pub going-fails : s .did ≡ Fails → (cs′ : Cells) → cs′ ≡ undone (entriesOf own 0 entries) ds
-        → record { cells = cs′; outcome = record { place = i + 1; numbers = [] }; undo = [] } ≡ runFrom 1 os cs₀ [] []
-    going-fails e cs′ eu =
+    pub going-fails : (x : ℕ) → s .did ≡ Fails x → (cs′ : Cells) → cs′ ≡ undone (entriesOf own 0 entries) ds
+        → record { cells = cs′; outcome = tells (i + 1) (Fails x); undo = [] } ≡ runFrom 1 os cs₀ [] []
+    going-fails x e cs′ eu =
         let back : cs′ ≡ undone (g .us) cells =
-        eu ∙ ap (undone (entriesOf own 0 entries)) (stands Fails e) ∙ ap (λ (x : List Undo). undone x cells) (ap (λ (x : List ℕ). entriesOf x 0 entries) (g .at-us) ∙ ap (entriesOf (padded 16 (flat (g .us))) 0) (sym (g .many)) ∙ entries-padded 16 (g .us)) in
-        (λ j. record { cells = back j; outcome = record { place = add-one i j; numbers = [] }; undo = [] })
-        ∙ sym (run-by (suc i) o (drop (suc i) os) cells (g .ns) (g .us) Fails (did Fails e))
-        ∙ ap (λ (x : List Op). runFrom (suc i) x cells (g .ns) (g .us)) (sym next) ∙ g .rest
+        eu ∙ ap (undone (entriesOf own 0 entries)) (stands (Fails x) e) ∙ ap (λ (l : List Undo). undone l cells) (ap (λ (l : List ℕ). entriesOf l 0 entries) (g .at-us) ∙ ap (entriesOf (padded 16 (flat (g .us))) 0) (sym (g .many)) ∙ entries-padded 16 (g .us)) in
+        (λ j. record { cells = back j; outcome = tells (add-one i j) (Fails x); undo = [] })
+        ∙ sym (run-by (suc i) o (drop (suc i) os) cells (g .ns) (g .us) (Fails x) (did (Fails x) e))
+        ∙ ap (λ (l : List Op). runFrom (suc i) l cells (g .ns) (g .us)) (sym next) ∙ g .rest
 
   pub going-done : drop i os ≡ [] → record { cells = cells; outcome = record { place = 0; numbers = g .ns }; undo = g .us } ≡ runFrom 1 os cs₀ [] []
   unfolding runFrom
@@ -249,9 +249,9 @@ module _ (os : List Op) (cs₀ cells numbers own : List ℕ) (entries i : ℕ) (
   unfolding laid
   going-laid = λ j. record { place = 0; count = sym (g .here) j; numbers = g .at-ns j; entries = sym (g .many) j; undo = g .at-us j }
 
-pub failed-laid : (cs : Cells) (p : ℕ) → record { place = p; count = 0; numbers = replicate 8 0; entries = 0; undo = replicate 16 0 } ≡ laid (record { cells = cs; outcome = record { place = p; numbers = [] }; undo = [] })
+pub failed-laid : (cs : Cells) (p x : ℕ) → record { place = p; count = 1; numbers = x ∷ replicate 7 0; entries = 0; undo = replicate 16 0 } ≡ laid (record { cells = cs; outcome = tells p (Fails x); undo = [] })
 unfolding laid padded
-failed-laid cs p = refl
+failed-laid cs p x = refl
 
 -- the operations of a fragment, of a row of eight
 

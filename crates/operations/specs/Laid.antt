@@ -19,7 +19,7 @@ operated o cs = record { did = operate o cs; old = content o cs }
 
 -- the cells after it
 unfoldable pub afterwards : Op → Cells → Cells
-afterwards o cs = elim (operate o cs) [ Number y ↦ put o y cs | Fails ↦ cs ]
+afterwards o cs = elim (operate o cs) [ Number y ↦ put o y cs | Fails x ↦ cs ]
 
 -- the undo entry that stands in l at place b: a cell and its old number
 abbrev pub entryAt : List ℕ → ℕ → Undo

@@ -52,7 +52,7 @@ pub fn may_fail(code: u32) -> bool
     }
 }
 
-// What a code makes of content x and amount v.
+// What a code makes of content x and amount v: "A failing operation now gives the number it found" (02, L4).
 pub fn apply(code: u32, x: u32, v: u32) -> Did
     ensures { λ r. ⌜ r ≡ meaning code x v ⌝ }
 {
@@ -61,20 +61,26 @@ pub fn apply(code: u32, x: u32, v: u32) -> Did
         2 => Did::Number(v),
         3 => {
             if model::TOP - x < v {
-                Did::Fails
+                Did::Fails(x)
             } else {
                 Did::Number(x + v)
             }
         }
         4 => {
             if x < v {
-                Did::Fails
+                Did::Fails(x)
             } else {
                 Did::Number(x - v)
             }
         }
-        5 => { if x < v { Did::Fails } else { Did::Number(x) } }
-        6 => { if x == v { Did::Number(x) } else { Did::Fails } }
+        5 => { if x < v { Did::Fails(x) } else { Did::Number(x) } }
+        6 => {
+            if x == v {
+                Did::Number(x)
+            } else {
+                Did::Fails(x)
+            }
+        }
         7 => {
             if x < v {
                 Did::Number(v)
@@ -89,7 +95,7 @@ pub fn apply(code: u32, x: u32, v: u32) -> Did
                 Did::Number(x)
             }
         }
-        _ => Did::Fails,
+        _ => Did::Fails(x),
     }
 }
 
@@ -130,7 +136,7 @@ pub fn operate_on(cells: &mut [u32], o: Op) -> Operated
             }
             Operated { did: d, old: x }
         }
-        Did::Fails => Operated { did: d, old: x },
+        Did::Fails(_) => Operated { did: d, old: x },
     }
 }
 
@@ -223,7 +229,7 @@ pub fn undo(cells: &mut [u32], entries: &[u32], count: u32)
 }
 
 // What a fragment's run gives: the place of failure or 0, the numbers with their count, its own undo entries with their count; unused
-// places are zero.
+// places are zero. Where it failed, the numbers are the one that the failing operation found.
 pub struct Ran {
     pub place: u32,
     pub count: u32,
@@ -253,12 +259,12 @@ pub fn run_fragment(cells: &mut [u32], f: Fragment) -> Ran
                 numbers[i] = y;
                 entries = note(&mut own, entries, o, s.old);
             }
-            Did::Fails => {
+            Did::Fails(x) => {
                 undo(cells, &own, entries as u32);
                 return Ran {
                     place: (i + 1) as u32,
-                    count: 0,
-                    numbers: [0u32; 8],
+                    count: 1,
+                    numbers: [x, 0, 0, 0, 0, 0, 0, 0],
                     entries: 0,
                     undo: [0u32; 16],
                 };

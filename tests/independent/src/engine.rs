@@ -20,7 +20,8 @@ pub enum State {
     Failed,
 }
 
-/// What a fragment gave: a place of failure and no numbers, or place 0 and a number for each operation.
+/// What a fragment gave: a place of failure and the one number that was found there, or place 0 and a number for each
+/// operation.
 #[derive(Clone, Debug, Default, PartialEq, Eq)]
 pub struct Outcome {
     pub place: u32,
@@ -166,12 +167,22 @@ pub enum Fault {
     ReadWithAmount,
     FlagsUpTo7,
     DependenceBeforeNumber,
+    /// Tells no number with a place of failure.
+    FoundNotTold,
+    /// Tells what the failing operation would have left: a sum or a rest that wraps.
+    FoundAfterwards,
+    /// Tells what the cell holds once the transaction's changes are taken back.
+    FoundAfterUndo,
+    /// Tells the amount that was asked for.
+    FoundTheAmount,
+    /// Tells the numbers of the operations before it too.
+    FoundAmongOthers,
     /// No trace lends less than the room: the depot program's calls show it.
     LeastRoom1023,
 }
 
 impl Fault {
-    pub const ALL: [Fault; 22] = [
+    pub const ALL: [Fault; 27] = [
         Fault::UndoOldestFirst,
         Fault::SpeculateBehindUnfinishedFront,
         Fault::RequeueReversed,
@@ -193,6 +204,11 @@ impl Fault {
         Fault::ReadWithAmount,
         Fault::FlagsUpTo7,
         Fault::DependenceBeforeNumber,
+        Fault::FoundNotTold,
+        Fault::FoundAfterwards,
+        Fault::FoundAfterUndo,
+        Fault::FoundTheAmount,
+        Fault::FoundAmongOthers,
         Fault::LeastRoom1023,
     ];
 
@@ -220,7 +236,12 @@ impl Fault {
             | Fault::Coordinator254
             | Fault::ReadWithAmount
             | Fault::FlagsUpTo7
-            | Fault::DependenceBeforeNumber => true,
+            | Fault::DependenceBeforeNumber
+            | Fault::FoundNotTold
+            | Fault::FoundAfterwards
+            | Fault::FoundAfterUndo
+            | Fault::FoundTheAmount
+            | Fault::FoundAmongOthers => true,
         }
     }
 
@@ -487,7 +508,8 @@ impl Engine {
     }
 }
 
-/// Runs one fragment of a transaction; if it fails, everything the transaction changed is taken back at once.
+/// Runs one fragment of a transaction; if it fails, everything the transaction changed is taken back at once, and what
+/// is told is the content that the failing operation found, with those changes in it.
 fn run(one: &mut Uncommitted, fragment: &Fragment, cells: &mut [u32], fault: Fault) -> Outcome {
     let earlier = one.undo.len();
     let mut numbers = Vec::new();
@@ -495,12 +517,14 @@ fn run(one: &mut Uncommitted, fragment: &Fragment, cells: &mut [u32], fault: Fau
     for (place, operation) in (1..).zip(fragment.used()) {
         let content = &mut cells[operation.cell as usize];
         let Some(after) = apply(operation, *content, fault) else {
+            let found = *content;
             if fault == Fault::FailureKeepsWrites {
                 one.undo.truncate(earlier);
             }
             undo(one, cells, fault);
             one.state = State::Failed;
-            return Outcome { place, numbers: Vec::new() };
+            let put_back = cells[operation.cell as usize];
+            return Outcome { place, numbers: told(operation, found, put_back, numbers, fault) };
         };
         if operation.writes() {
             one.undo.push((operation.cell, *content));
@@ -512,6 +536,22 @@ fn run(one: &mut Uncommitted, fragment: &Fragment, cells: &mut [u32], fault: Fau
         one.state = State::Finished;
     }
     Outcome { place: 0, numbers }
+}
+
+/// The number found. A wrong engine tells another one, none, or more.
+fn told(operation: &Operation, found: u32, put_back: u32, mut before: Vec<u32>, fault: Fault) -> Vec<u32> {
+    match (fault, operation.code) {
+        (Fault::FoundNotTold, _) => vec![],
+        (Fault::FoundAfterwards, ADD) => vec![found.wrapping_add(operation.amount)],
+        (Fault::FoundAfterwards, TAKE) => vec![found.wrapping_sub(operation.amount)],
+        (Fault::FoundAfterUndo, _) => vec![put_back],
+        (Fault::FoundTheAmount, _) => vec![operation.amount],
+        (Fault::FoundAmongOthers, _) => {
+            before.push(found);
+            before
+        }
+        _ => vec![found],
+    }
 }
 
 fn apply(operation: &Operation, content: u32, fault: Fault) -> Option<u32> {

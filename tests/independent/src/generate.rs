@@ -495,7 +495,8 @@ impl Reach {
             Scheme::Speculation => ("depth 16", self.depth_16),
             Scheme::Blocking => ("a drain that blocking stops", self.stopped_by_blocking),
         };
-        let others = [of_scheme, ("64 live", self.live_64), ("a bad trace", self.bad)];
+        let others =
+            [of_scheme, ("64 live", self.live_64), ("a failed answer", self.failed), ("a bad trace", self.bad)];
         let others = others.map(|(name, count)| (name.to_string(), count));
         refusals.chain(others).filter(|(_, count)| *count == 0).map(|(name, _)| name).collect()
     }

@@ -30,10 +30,10 @@ fn p1_to_p9() {
     assert_eq!(matters(&depot, &p3), ["a 1 0 0 2 9 8", "c 0 5", "c 1 10"]);
 
     assert_eq!(matters(&depot, &[Event::single(1, &[(TAKE, 1, 10)])]), ["a 1 0 0 1 0", "c 0 5", "c 1 0"]);
-    assert_eq!(matters(&depot, &[Event::single(1, &[(TAKE, 1, 11)])]), ["a 1 0 1 0", "c 0 5", "c 1 10"]);
+    assert_eq!(matters(&depot, &[Event::single(1, &[(TAKE, 1, 11)])]), ["a 1 0 1 1 10", "c 0 5", "c 1 10"]);
 
     let p6 = [Event::single(1, &[(ADD, 0, 0)]), Event::single(2, &[(ADD, 0, 1)])];
-    assert_eq!(matters(&[TOP], &p6), ["a 1 0 0 1 4294967295", "a 2 0 1 0", "c 0 4294967295"]);
+    assert_eq!(matters(&[TOP], &p6), ["a 1 0 0 1 4294967295", "a 2 0 1 1 4294967295", "c 0 4294967295"]);
 
     assert_eq!(matters(&depot, &examples::p7()), ["a 1 0 0 1 17", "a 3 1 0 1 19", "c 0 19", "c 1 10"]);
 
@@ -46,7 +46,7 @@ fn p1_to_p9() {
         Event::open(1, 1, &[(SET, 0, 1), (TAKE, 1, 11)]),
         Event::commit(1),
     ];
-    assert_eq!(matters(&depot, &p9), ["a 1 0 0 1 5", "e 2 13", "a 1 0 2 0", "e 4 14", "c 0 5", "c 1 10"]);
+    assert_eq!(matters(&depot, &p9), ["a 1 0 0 1 5", "e 2 13", "a 1 0 2 1 10", "e 4 14", "c 0 5", "c 1 10"]);
 }
 
 #[test]
@@ -77,7 +77,7 @@ fn examples_show_what_they_are_for() {
     assert!(output("depth16").contains("a 16 1 0 1 115\ne 17 0\ne 18 7\ne 19 0\n"));
     assert!(output("live64").contains("e 65 10\n") && output("live64").contains("e 70 0\na 65 0 0 1 63\n"));
     assert!(output("ninth-fragment").contains("e 8 0\na 1 0 0 1 2\ne 9 11\n"));
-    assert!(output("shelf40").contains("e 12 0\na 3 0 0 1 3\na 4 0 0 2 3 1\na 5 0 1 0\n"));
+    assert!(output("shelf40").contains("e 12 0\na 3 0 0 1 3\na 4 0 0 2 3 1\na 5 0 1 1 0\n"));
 }
 
 /// Every form that 4 refuses, each spoiled by one thing alone.
@@ -220,8 +220,38 @@ fn failing() {
         Event::abort(1),
         Event::commit(3),
     ];
-    let expected = ["a 1 0 0 1 1", "a 1 0 3 0", "e 5 8", "a 2 0 2 0", "a 3 0 0 1 6", "c 0 6", "c 1 10"];
+    let expected = ["a 1 0 0 1 1", "a 1 0 3 1 2", "e 5 8", "a 2 0 2 1 5", "a 3 0 0 1 6", "c 0 6", "c 1 10"];
     assert_eq!(matters(&[5, 10], &events), expected);
+}
+
+/// Request L4: the content that the failing operation saw, whatever is taken back after it.
+#[test]
+fn what_was_found() {
+    // Each code that may fail, on a cell of 10.
+    for (code, amount) in [(ADD, TOP - 9), (ADD, TOP), (TAKE, 11), (NEED, TOP), (MATCH, 9), (MATCH, 11)] {
+        let alone = [Event::single(1, &[(code, 1, amount)])];
+        assert_eq!(matters(&[5, 10], &alone), ["a 1 0 1 1 10", "c 0 5", "c 1 10"], "code {code}");
+    }
+    // Its own transaction's changes are in it: of the same fragment, and of earlier ones.
+    let same = [Event::single(1, &[(TAKE, 1, 4), (TAKE, 1, 7)])];
+    assert_eq!(matters(&[5, 10], &same), ["a 1 0 2 1 6", "c 0 5", "c 1 10"]);
+    let earlier = [Event::open(1, 1, &[(TAKE, 1, 4)]), Event::open(1, 1, &[(SET, 0, 0), (NEED, 1, 7)])];
+    assert_eq!(matters(&[5, 10], &earlier), ["a 1 0 0 1 6", "a 1 0 2 1 6", "c 0 5", "c 1 10"]);
+    // A 0 that was found is told too.
+    let nothing = [Event::single(1, &[(SET, 1, 0), (READ, 0, 0), (TAKE, 1, 1)])];
+    assert_eq!(matters(&[5, 10], &nothing), ["a 1 0 3 1 0", "c 0 5", "c 1 10"]);
+    // Behind a front: 2 is held with what it found, 3 is told what it found under 1, and an abort makes both anew.
+    let mut behind = vec![
+        Event::last(1, 1, &[(TAKE, 1, 8)]),
+        Event::single(2, &[(ADD, 1, 1), (TAKE, 1, 4)]),
+        Event::last(3, 1, &[(TAKE, 1, 11)]),
+        Event::commit(1),
+    ];
+    let committed = ["a 1 0 0 1 2", "a 3 1 1 1 2", "a 2 0 2 1 3", "c 0 5", "c 1 2"];
+    assert_eq!(matters(&[5, 10], &behind), committed);
+    behind[3] = Event::abort(1);
+    let aborted = ["a 1 0 0 1 2", "a 3 1 1 1 2", "a 2 0 0 2 11 7", "a 3 0 1 1 7", "c 0 5", "c 1 7"];
+    assert_eq!(matters(&[5, 10], &behind), aborted);
 }
 
 #[test]
@@ -341,7 +371,7 @@ fn facts_of_every_run() {
                     assert_eq!(one.state == State::Finished, first.is_last());
                 }
                 match &one.held {
-                    Some(held) if failed => assert!((1..=first.count).contains(&held.place) && held.numbers.is_empty()),
+                    Some(held) if failed => assert!((1..=first.count).contains(&held.place) && held.numbers.len() == 1),
                     Some(held) => assert!(held.place == 0 && held.numbers.len() == first.count as usize),
                     None => {
                         let mut ahead = record.uncommitted.iter().take(at).filter(|other| other.first.is_multi());

@@ -34,18 +34,36 @@ fn what_was_worked_by_hand_is_what_this_engine_prints() {
     }
 }
 
+/// The examples of the page that notice a wrong engine.
+fn notices(fault: Fault, scheme: Scheme) -> Vec<String> {
+    let differs = |edges: &&edges::Edges| replay_with(scheme, &edges.bytes(), fault) != edges.prints(scheme);
+    edges::all().iter().filter(differs).map(|edges| edges.name.clone()).collect()
+}
+
 /// No theorem of the model notices these definitions: an example does. The least room is the depot program's.
 #[test]
 fn wrong_definitions_are_noticed() {
-    let notices = |fault, scheme| {
-        let differs = |edges: &&edges::Edges| replay_with(scheme, &edges.bytes(), fault) != edges.prints(scheme);
-        edges::all().iter().filter(differs).map(|edges| edges.name.clone()).collect::<Vec<_>>()
-    };
     let form = "edges-form".to_string();
     for scheme in Scheme::ALL {
         for fault in [Fault::Coordinator254, Fault::ReadWithAmount, Fault::FlagsUpTo7, Fault::DependenceBeforeNumber] {
             assert!(notices(fault, scheme).contains(&form), "{fault:?} by {}", scheme.word());
         }
         assert!(notices(Fault::LeastRoom1023, scheme).is_empty());
+    }
+}
+
+/// Another number than the one that a failing operation found, none, or more. The page has operations that fail on a
+/// cell which their own transaction has changed.
+#[test]
+fn what_was_not_found_is_noticed() {
+    let faults = [
+        Fault::FoundNotTold,
+        Fault::FoundAfterwards,
+        Fault::FoundAfterUndo,
+        Fault::FoundTheAmount,
+        Fault::FoundAmongOthers,
+    ];
+    for (fault, scheme) in faults.into_iter().flat_map(|fault| Scheme::ALL.map(|scheme| (fault, scheme))) {
+        assert!(notices(fault, scheme).contains(&"edges-codes".to_string()), "{fault:?} by {}", scheme.word());
     }
 }

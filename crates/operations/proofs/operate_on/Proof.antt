@@ -67,7 +67,7 @@ returns-3 c = let a = c .before .before .before .before .before .before .before 
     let d = c .before .before .apply in
     let y = c .enum-told .given in (
       operated-as (a .o) (now (a .cells)) (n .result) (d .result) (n .ensures) (d .ensures) (d .result) refl,
-      after-fails (a .o) (now (a .cells)) (n .result) (d .result) (n .ensures) (d .ensures) (y .1),
+      after-fails (a .o) (now (a .cells)) (n .result) (d .result) (n .ensures) (d .ensures) (y .0 .0) (y .1),
     )
 
 pub operate-on-spec : {M : Type 1} → statement M

@@ -51,8 +51,8 @@ array-write-numbers c = search needs
 note-requires : tie.Need-note-requires Inv-loop μ-loop
 note-requires c κs = let l = c .before .before .before .before .before .before .before .before .before .before .loop in (l .inv .5, omega (arith, l .inv .6 .few))
 
-enum-told : tie.Need-enum-told Inv-loop μ-loop
-enum-told c = search needs
+enum-known-d-2 : tie.Need-enum-known-d-2 Inv-loop μ-loop
+enum-known-d-2 c = search needs
 
 slice-aggregate-undo : tie.Need-slice-aggregate-undo Inv-loop μ-loop
 slice-aggregate-undo c = search needs
@@ -63,25 +63,26 @@ cast-undo c = search needs
 undo-requires : tie.Need-undo-requires Inv-loop μ-loop
 undo-requires c κs = search needs
 
-add-t30 : tie.Need-add-t30 Inv-loop μ-loop
-add-t30 c = search needs
+add-t31 : tie.Need-add-t31 Inv-loop μ-loop
+add-t31 c = search needs
 
-cast-t29 : tie.Need-cast-t29 Inv-loop μ-loop
-cast-t29 c = search needs
+cast-t30 : tie.Need-cast-t30 Inv-loop μ-loop
+cast-t30 c = search needs
 
 same-length : tie.Need-same-length Inv-loop μ-loop
-same-length c = c .before .before .undo .kept .0 ∙ c .before .before .before .before .before .before .before .before .before .operate-on .kept .0 ∙ c .before .before .before .before .before .before .before .before .before .before .before .before .before .loop .inv .3
+same-length c = c .before .before .undo .kept .0 ∙ c .before .before .before .before .before .before .before .before .before .before .operate-on .kept .0 ∙ c .before .before .before .before .before .before .before .before .before .before .before .before .before .before .loop .inv .3
 
 returns : tie.Need-returns Inv-loop μ-loop
-returns c = let a = c .before .before .before .before .before .before .before .before .before .before .before .before .before .before .before .before .before .args in
-    let l = c .before .before .before .before .before .before .before .before .before .before .before .before .before .loop in
-    let n = c .before .before .before .before .before .before .before .before .before .before .before .before .before .before .places .result in
-    let s = c .before .before .before .before .before .before .before .before .before .operate-on in
+returns c = let a = c .before .before .before .before .before .before .before .before .before .before .before .before .before .before .before .before .before .before .args in
+    let l = c .before .before .before .before .before .before .before .before .before .before .before .before .before .before .loop in
+    let n = c .before .before .before .before .before .before .before .before .before .before .before .before .before .before .before .places .result in
+    let s = c .before .before .before .before .before .before .before .before .before .before .operate-on in
+    let d = c .before .before .before .before .before .before .d2 .given in
     let os : List Op = take n (a .f .row) in
     let e : _ = going-fails os (a .cells .now) (l .cells) (l .numbers) (l .own) (l .entries) (l .i) (l .inv .6) (getD (a .f .row) (l .i) noOp)
-    (next-of (a .f .row) n (l .i) noOp (l .inv .2) (l .inv .1) (c .before .before .before .before .before .before .before .before .before .before .before .before .loop-test .taken)) (s .result) (s .last .0) (s .ensures .0) (s .ensures .1) (c .before .before .before .before .before .enum-told .given .1) (c .before .before .undo .last .0) (c .before .before .undo .ensures) in
-    let w : _ = e ∙ ap (λ (x : List Op). runFrom 1 x (a .cells .now) [] []) (ap (λ (m : ℕ). take m (a .f .row)) (c .before .before .before .before .before .before .before .before .before .before .before .before .before .before .places .ensures) ∙ operations-of (a .f) (l .inv .2)) in
-    (failed-laid (c .before .before .undo .last .0) (l .i + 1) ∙ ap laid w, ap (λ (r : Steps.Ran). r .cells) w)
+    (next-of (a .f .row) n (l .i) noOp (l .inv .2) (l .inv .1) (c .before .before .before .before .before .before .before .before .before .before .before .before .before .loop-test .taken)) (s .result) (s .last .0) (s .ensures .0) (s .ensures .1) (d .0 .0) (d .1) (c .before .before .undo .last .0) (c .before .before .undo .ensures) in
+    let w : _ = e ∙ ap (λ (x : List Op). runFrom 1 x (a .cells .now) [] []) (ap (λ (m : ℕ). take m (a .f .row)) (c .before .before .before .before .before .before .before .before .before .before .before .before .before .before .before .places .ensures) ∙ operations-of (a .f) (l .inv .2)) in
+    (failed-laid (c .before .before .undo .last .0) (l .i + 1) (d .0 .0) ∙ ap laid w, ap (λ (r : Steps.Ran). r .cells) w)
 
 add-i : tie.Need-add-i Inv-loop μ-loop
 add-i c = search needs
@@ -108,11 +109,11 @@ loop-again c = let a = c .before .before .before .before .before .before .before
       g,
     )
 
-cast-t33 : tie.Need-cast-t33 Inv-loop μ-loop
-cast-t33 c = search needs
+cast-t34 : tie.Need-cast-t34 Inv-loop μ-loop
+cast-t34 c = search needs
 
-cast-t35 : tie.Need-cast-t35 Inv-loop μ-loop
-cast-t35 c = search needs
+cast-t36 : tie.Need-cast-t36 Inv-loop μ-loop
+cast-t36 c = search needs
 
 same-length-2 : tie.Need-same-length-2 Inv-loop μ-loop
 same-length-2 c = c .before .loop .inv .3
@@ -141,18 +142,18 @@ run-fragment-spec =
     mul-numbers
     array-write-numbers
     note-requires
-    enum-told
+    enum-known-d-2
     slice-aggregate-undo
     cast-undo
     undo-requires
-    add-t30
-    cast-t29
+    add-t31
+    cast-t30
     same-length
     returns
     add-i
     loop-less
     loop-again
-    cast-t33
-    cast-t35
+    cast-t34
+    cast-t36
     same-length-2
     returns-2)
