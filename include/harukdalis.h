@@ -157,8 +157,12 @@ uint32_t harukdalis_call(harukdalis_record *record,
                          uint32_t *answers);
 
 /*
- * The same by blocking: waiting ones run only while nothing is uncommitted. No answer that it sends has a dependence.
- * All that is said above holds of it too.
+ * The same by blocking: waiting ones run only while nothing is uncommitted. All that is said above holds of it too.
+ *
+ * Where at most one is uncommitted, no answer that it sends has a dependence, and at most one is uncommitted after it:
+ * so none has a dependence where all calls since the start were by blocking. Where speculation has left more of them, a
+ * commit by blocking settles and answers behind the front as one by speculation does: held answers of multis that it
+ * releases have their dependences.
  *
  * A record keeps no scheme, so any call on it may be either one. The same events from the same start bring the same
  * returned numbers by both, the same answers to singles in the same calls, and the same cells whenever nothing is live;

@@ -43,7 +43,8 @@ impl Answer {
         self.words
     }
 
-    /// The transaction that is answered.
+    /// The transaction that is answered. It need not be the event's: a commit answers the singles that settle with it,
+    /// the new front, multis whose answers it releases, and what the drain runs.
     pub const fn transaction(&self) -> u32 {
         self.words[TRANSACTION]
     }

@@ -5,7 +5,8 @@
 //! transaction of this partition alone. A *multi* spans partitions: it is answered, and then undecided until its
 //! coordinator has heard all of them. What arrives meanwhile is run behind it, on the guess that it commits. A single's
 //! answer is then held back; a multi's may be sent with a *dependence*, the number that must commit for the answer to
-//! hold. If the multi ahead is aborted, what ran behind it is undone, waits again and runs again.
+//! hold. It is held back while a multi of another coordinator is ahead of it: the commit of the last of these releases
+//! it. If the multi ahead is aborted, what ran behind it is undone, waits again and runs again.
 //!
 //! ```
 //! use harukdalis::{Engine, Event, Op, Outcome, Refusal, Room};

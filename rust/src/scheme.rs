@@ -10,8 +10,10 @@ pub enum Scheme {
     /// Runs what arrives behind an undecided multi on the guess that it commits, up to [`crate::DEPTH`] deep. An abort
     /// undoes what was speculated and runs it again. [`crate::Engine::call`] does this.
     Speculation,
-    /// Runs nothing while a multi is undecided. Nothing is undone but the multi that is aborted, and every answer is
-    /// sent without a dependence; a multi is answered only once it is the front.
+    /// Runs nothing while a multi is undecided. Where all calls since the start were by blocking, nothing is undone but
+    /// the multi that is aborted, a multi is answered only once it is the front, and every answer is sent without a
+    /// dependence. What speculation has left stays: an abort undoes it, and a commit settles it and releases its held
+    /// answers, with their dependences.
     Blocking,
 }
 

@@ -110,6 +110,50 @@ fn p7_p8_a_dependence_on_the_multi_ahead() {
     assert_eq!(depot.call(Event::commit(3)), one(4, 0, &[19]));
 }
 
+/// Request L6: coordinators 1, 2, 2 and 1. The commit of 1 answers 2, the new front, and 3, whose multis ahead are then of
+/// its own coordinator; 4 is behind another one's.
+#[test]
+fn a_commit_releases_held_answers() {
+    let add = |number, coordinator| Event::multi(number, coordinator, true, &[Op::add(0, 1)]);
+    let mut depot = depot(&[5]);
+    assert_eq!(depot.call(add(1, 1)), one(1, 0, &[6]));
+    for (number, coordinator) in [(2, 2), (3, 2), (4, 1)] {
+        assert_eq!(depot.call(add(number, coordinator)), NONE, "another coordinator is ahead");
+    }
+    let mut blocking = Depot { engine: depot.engine.clone(), cells: depot.cells.clone(), room: Room::new() };
+    let released = Ok(vec![(2, 0, 0, vec![7]), (3, 2, 0, vec![8])]);
+    assert_eq!(depot.call(Event::commit(1)), released);
+    // By blocking the commit of what speculation left is the same; what comes then waits.
+    assert_eq!(blocking.call_by(Scheme::Blocking, Event::commit(1)), released);
+    assert_eq!(blocking.engine, depot.engine);
+    assert_eq!(blocking.call_by(Scheme::Blocking, add(5, 2)), NONE);
+    assert_eq!(blocking.engine.record().waiting, 1);
+    // 3 was answered, and is not answered again when it is the front.
+    assert_eq!(depot.call(Event::commit(2)), NONE);
+    assert_eq!(depot.call(Event::commit(3)), one(4, 0, &[9]));
+}
+
+/// What a commit releases stands between the new front's answer and what the drain runs; a single between counts for no
+/// coordinator, and stays held.
+#[test]
+fn released_answers_come_before_the_drains() {
+    let mut depot = depot(&[0]);
+    let add = |number, coordinator| Event::multi(number, coordinator, true, &[Op::add(0, 1)]);
+    assert_eq!(depot.call(add(1, 1)), one(1, 0, &[1]));
+    assert_eq!(depot.call(add(2, 2)), NONE);
+    for number in 3..DEPTH as u32 {
+        assert_eq!(depot.call(Event::single(number, &[Op::add(0, 1)])), NONE);
+    }
+    assert_eq!(depot.call(add(16, 2)), NONE);
+    assert_eq!(depot.call(add(17, 2)), NONE);
+    assert_eq!(depot.engine.record().waiting, 1);
+    let answers = vec![(2, 0, 0, vec![2]), (16, 2, 0, vec![16]), (17, 16, 0, vec![17])];
+    assert_eq!(depot.call(Event::commit(1)), Ok(answers));
+    // An abort makes them void: they run again and are answered again.
+    let again = depot.call(Event::abort(2)).unwrap();
+    assert_eq!((again.len(), &again[13..]), (15, &[(16, 0, 0, vec![15]), (17, 16, 0, vec![16])][..]));
+}
+
 /// The events of P7 and P8 by blocking: no multi is answered before the one ahead of it commits.
 #[test]
 fn p7_p8_by_blocking_each_multi_is_answered_when_it_is_the_front() {

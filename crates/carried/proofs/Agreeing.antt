@@ -1,11 +1,11 @@
 -- Carried from the list engine to records by the same road as demand 3 (Carrying): request L5, and what is known of the answers of one call.
-use Prim.Native.Nat.{ℕ, zero, suc, _+_, _<_}
+use Prim.Native.Nat.{ℕ, zero, suc, _+_, _≤_, _<_}
 use native.Mathlib.Omega.{arith}
 use mathlib.Core.Path.{_≡_, refl, sym, ap, _∙_, subst, subst₂}
 use mathlib.Core.List.{List, [], _∷_}
 use lib.ListN.{length, getD}
 use Rattle.model.specs.Operations.{Cells}
-use Rattle.model.specs.Transactions.{Uncommitted, Waiting, Answer, Rising, numbers}
+use Rattle.model.specs.Transactions.{Uncommitted, Waiting, Engine, Answer, Rising, numbers}
 use Rattle.model.specs.Refusals.{Call, step}
 use Rattle.model.specs.Demand.{Run, onward, runs, fresh, Lends, settledOf, settledIn}
 use Rattle.model.specs.Schemes.{Alike, Twins, Idle, ofSingles}
@@ -13,14 +13,14 @@ use Rattle.model.specs.declared.Scheme.the-variants.{Blocking}
 use Rattle.model.proofs.Chain.{all-mem}
 use Rattle.model.proofs.Agreeing.{schemes-agree}
 use Rattle.model.proofs.Leaving.{settled-in}
-use Rattle.model.proofs.Blocking.{Independent, blocking-independent}
+use Rattle.model.proofs.Blocking.{Independent, blocking-alone, blocking-independent, AllBlocking, fresh-alone}
 use Rattle.model.proofs.Rising.{step-rising}
 use Rattle.record.specs.declared.Record.{Record}
 use Rattle.record.specs.View.{view}
 use Rattle.engine.specs.Called.{stepped, called}
 use Rattle.carried.specs.Carried.{Words, AllWords, returned, roomOf, answerAt, answerOf, RecordRun, onwardR, runsR, freshR, LendsR, AllLendR, settledInR}
 use Rattle.carried.specs.Agreed.{TwinsR, IdleR, answersFrom, answersOf, RecordSchemesAgree}
-use Rattle.carried.proofs.Carrying.{meant, noAnswer, answer-is, answer-sent, reached, lent, from}
+use Rattle.carried.proofs.Carrying.{meant, next-view, noAnswer, answer-is, answer-sent, reached, lent, from}
 use Rattle.record.proofs.Viewed.{view-count, view-waits}
 
 -- the answers read from the room are the model's
@@ -82,9 +82,25 @@ agreed cs = record {
 pub settled-in-record : (cs : Cells) (calls : List Call) → AllWords calls → AllLendR (freshR cs) calls → settledInR (runsR (freshR cs) calls) ≡ settledOf (runsR (freshR cs) calls .log)
 settled-in-record cs calls w l = from cs calls w l (λ (r : Run). settledIn r ≡ settledOf (r .log)) (settled-in cs calls (lent cs calls w l))
 
--- By blocking no answer in the room depends on anything, from any record
-pub blocking-plain : (r : Record) (c : Call) → c .scheme ≡ Blocking → Words (c .event) → (i : ℕ) → i < returned r c .answers → answerOf r c i .dependence ≡ 0
-blocking-plain r c b w i lt = all-mem Independent (step (view r) c .answers) (blocking-independent (view r) c b) (answerOf r c i) (answer-sent r c i w lt)
+-- By blocking no answer in the room depends on anything, from records with at most one uncommitted, which the next record then has too
+pub blocking-plain : (r : Record) (c : Call) → c .scheme ≡ Blocking → Words (c .event) → r .counts .uncommitted ≤ 1 → (i : ℕ) → i < returned r c .answers → answerOf r c i .dependence ≡ 0
+blocking-plain r c b w h i lt =
+    let k : length (view r .uncommitted) ≤ 1 = omega (arith, view-count r, h) in
+    all-mem Independent (step (view r) c .answers) (blocking-independent (view r) c b k) (answerOf r c i) (answer-sent r c i w lt)
+
+pub blocking-one : (r : Record) (c : Call) → c .scheme ≡ Blocking → Words (c .event) → r .counts .uncommitted ≤ 1 → returned r c .next .counts .uncommitted ≤ 1
+blocking-one r c b w h =
+    let k : length (view r .uncommitted) ≤ 1 = omega (arith, view-count r, h) in
+    let x : length (view (returned r c .next) .uncommitted) ≤ 1 = subst (λ (e : Engine). length (e .uncommitted) ≤ 1) (sym (next-view r c w)) (blocking-alone (view r) c b k .one) in
+    omega (arith, view-count (returned r c .next), x)
+
+-- and from a fresh start by blocking alone, whatever the calls are lent
+pub fresh-plain : (cs : Cells) (calls : List Call) → AllWords calls → AllBlocking calls → (c : Call) → c .scheme ≡ Blocking → Words (c .event)
+    → (i : ℕ) → i < returned (runsR (freshR cs) calls .kept) c .answers → answerOf (runsR (freshR cs) calls .kept) c i .dependence ≡ 0
+fresh-plain cs calls ws bs c b w i lt =
+    let r : Record = runsR (freshR cs) calls .kept in
+    let k : length (view r .uncommitted) ≤ 1 = subst (λ (x : Run). length (x .engine .uncommitted) ≤ 1) (sym (reached cs calls ws)) (fresh-alone cs calls bs) in
+    all-mem Independent (step (view r) c .answers) (blocking-independent (view r) c b k) (answerOf r c i) (answer-sent r c i w lt)
 
 -- The answers in the room stand in rising number, from any record
 pub answers-rising : (r : Record) (c : Call) → Words (c .event) → Rising 0 (answersOf r c)

@@ -8,7 +8,7 @@ use lib.Dec.{eqb}
 use lib.ListN.{length, length-append, length-take}
 use Rattle.model.specs.Operations.{Cells, operate, put, multi, operations, tells}
 use Rattle.model.specs.Transactions.{Reply, Held, Sent, NoReply, Uncommitted, Waiting, Engine, Answer, answer}
-use Rattle.model.specs.Steps.{undone, noted, Ran, runFrom, run, begun, again, oneCoordinator, nearest, mayTake, Place, placed, Queues, sending, drain, joined, continued, arrived, heldBy, sent, settled, committed, requeued, aborted}
+use Rattle.model.specs.Steps.{undone, noted, Ran, runFrom, run, begun, again, oneCoordinator, nearest, mayTake, Place, placed, Queues, sending, drain, joined, continued, arrived, heldWith, heldBy, sent, released, settled, committed, requeued, aborted}
 use Rattle.model.specs.Refusals.{Request, Arrive, Commit, Abort, request, taken}
 use Rattle.model.specs.declared.Op.{Op}
 use Rattle.model.specs.declared.Fragment.{Fragment}
@@ -16,7 +16,7 @@ use Rattle.model.specs.declared.Scheme.{Scheme}
 use Rattle.model.specs.declared.Event.{Event}
 use Rattle.model.specs.declared.Undo.{Undo}
 use Rattle.model.specs.declared.Did.the-variants.{Number, Fails}
-use Rattle.model.proofs.Branches.{placed-idle, placed-behind, settled-cases, drain-cases, held-cases, request-cases}
+use Rattle.model.proofs.Branches.{placed-idle, placed-behind, released-cases, settled-cases, drain-cases, held-cases, request-cases}
 use Rattle.model.proofs.Chain.{all-append}
 use Rattle.record.specs.Words.{liveRows, heldOutcome}
 use Rattle.carried.specs.Carried.{Words}
@@ -76,14 +76,23 @@ drain-fine σ cs us (w ∷ ws) k e =
     drain-cases Fine σ cs us w ws (λ _. record { uncommitted = k; waiting = e; answers = tt })
     (λ _. sending-fine (p .answers) (p .settles) (drain σ (run (w .fragment) cs [] .cells) (p .uncommitted) ws) (h .1) f)
 
-held-small : (u : Uncommitted) → Fit u → All Small (heldBy u)
-held-small u h = held-cases (All Small) u (λ o e. (subst (λ (a : Reply). length (heldOutcome a .numbers) ≤ 8) e h, tt)) (λ _. tt)
+held-small : (d : ℕ) (u : Uncommitted) → Fit u → All Small (heldWith d u)
+held-small d u h = held-cases (All Small) d u (λ o e. (subst (λ (a : Reply). length (heldOutcome a .numbers) ≤ 8) e h, tt)) (λ _. tt)
+
+released-fine : (ahead us : List Uncommitted) → All Kept us → All Kept (released ahead us .uncommitted) × All Small (released ahead us .answers)
+unfolding released
+released-fine ahead [] k = (tt, tt)
+released-fine ahead (u ∷ us) k =
+    let x = released-fine (ahead ++ (u ∷ [])) us (k .1) in
+    released-cases (λ (p : Place). All Kept (p .uncommitted) × All Small (p .answers)) ahead u us ((k .0, x .0), x .1)
+    (λ _. (((k .0 .0, omega arith), x .0), all-append Small (heldWith (nearest 0 ahead) u) (released (ahead ++ (u ∷ [])) us .answers) (held-small (nearest 0 ahead) u (k .0 .1)) (x .1)))
 
 settled-fine : (us : List Uncommitted) → All Kept us → All Kept (settled us .uncommitted) × All Small (settled us .answers)
 unfolding settled
 settled-fine [] k = (tt, tt)
-settled-fine (u ∷ us) k = settled-cases (λ (p : Place). All Kept (p .uncommitted) × All Small (p .answers)) u us (λ _. (((k .0 .0, omega arith), k .1), held-small u (k .0 .1)))
-    (λ _. let x = settled-fine us (k .1) in (x .0, all-append Small (heldBy u) (settled us .answers) (held-small u (k .0 .1)) (x .1)))
+settled-fine (u ∷ us) k = settled-cases (λ (p : Place). All Kept (p .uncommitted) × All Small (p .answers)) u us
+    (λ _. let x = released-fine (u ∷ []) us (k .1) in (((k .0 .0, omega arith), x .0), all-append Small (heldBy u) (released (u ∷ []) us .answers) (held-small 0 u (k .0 .1)) (x .1)))
+    (λ _. let x = settled-fine us (k .1) in (x .0, all-append Small (heldBy u) (settled us .answers) (held-small 0 u (k .0 .1)) (x .1)))
 
 pub rows-eight : (us : List Uncommitted) (ws : List Waiting) → All Kept us → All Eight ws → All Eight (liveRows us ws)
 rows-eight [] ws k e = e

@@ -25,7 +25,7 @@ use Rattle.engine.specs.declared.course.Course.{Course}
 use Rattle.engine.specs.Work.{Fair, Dropped, Settled, Committed, Aborted, Continued, leftBy, requeuedAll}
 use Rattle.rows.specs.Rows.{withAnswer, runRow, stateWordAfter}
 use Rattle.rows.proofs.Rooms.{answered-room, state-word}
-use Rattle.engine.proofs.Settling.{first-word, front-runs}
+use Rattle.engine.proofs.Settling.{run-word, run-over}
 use Rattle.model.specs.Parts.{All}
 use Rattle.record.specs.Fitting.{Eight, Fit, Known}
 use Rattle.record.specs.Widths.{liveWidth, runWidth, liveLength, runsLength, undoLength}
@@ -98,7 +98,7 @@ module _ (live runs undo room runs′ undo′ room′ : List ℕ) (cells cells�
   continued gone u ws sent room₀ k kn few-ran eight few = (
     record {
       at-live = k .at-live;
-      at-runs = front-runs u [] runs (kn, tt) (k .at-runs) v w runs′ (omega arith) run-is eruns;
+      at-runs = run-over [] u [] runs 0 tt kn refl (k .at-runs) v w runs′ (omega arith) run-is eruns;
       at-undo = undo-is;
       at-room = room-is;
       first = k .first ∙ sym (ap (λ (x : Course). x .first) ecounts);
@@ -169,7 +169,7 @@ module _ (live runs undo room runs′ undo′ room′ : List ℕ) (cells cells�
         where
           ran-is : before + 1 ≡ u .ran + 1
           ran-is =
-              let h : ran ≡ u .ran = eran ∙ first-word u [] runs (kn, tt) (k .at-runs) 0 (omega arith) ∙ first-is u in
+              let h : ran ≡ u .ran = eran ∙ run-word [] u [] runs 0 tt kn refl (k .at-runs) 0 (omega arith) ∙ first-is u in
               omega (arith, ebefore, h, few-ran)
 
           state-is : state ≡ stateWord (stateAfter f (run f cells (u .undo) .outcome))

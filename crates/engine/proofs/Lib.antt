@@ -3,6 +3,7 @@ pub mod Staying
 pub mod Placing
 pub mod Draining
 pub mod Settling
+pub mod Releasing
 pub mod Deciding
 pub mod Accepting
 pub mod Calling

@@ -3,28 +3,29 @@ use Prim.Native.Nat.{ℕ, suc, _+_, _*_, _-_, _%_, min, _≤_, _<_}
 use native.Mathlib.Omega.{arith}
 use borrow.Author.Tests.{not-false}
 use mathlib.Core.Path.{_≡_, refl, sym, ap, _∙_, subst}
-use mathlib.Core.Bool.{Bool, true, false, not}
+use mathlib.Core.Bool.{Bool, true, false, not, true≢false}
 use mathlib.Core.Logic.{_⊎_, inl, inr}
 use mathlib.Core.List.{List, [], _∷_, _++_, append-assoc, append-nil}
 use lib.Dec.{eqb}
-use lib.ListN.{length, getD, drop, replicate, length-append, List·getD-append}
-use lib.Seq.{sets, sets-eq, drop-at, getD-append-add}
+use lib.ListN.{length, getD, take, drop, replicate, length-append, List·getD-append}
+use lib.Seq.{sets, sets-eq, take-at, drop-at, getD-append-add}
 use Rattle.model.specs.Limits.{answerWords}
 use Rattle.model.specs.Operations.{Outcome, pick, multi}
 use Rattle.model.specs.Transactions.{Reply, Held, Sent, NoReply, Uncommitted, Waiting, Answer, answer, words, undoList, filled, front}
-use Rattle.model.specs.Steps.{heldBy, sent, Place, settled}
+use Rattle.model.specs.Steps.{heldWith, heldBy, sent, Place, released, settled}
 use Rattle.model.proofs.Chain.{all-map}
 use Rattle.operations.specs.Laid.{padded, flat}
 use Rattle.operations.proofs.Turns.{length-padded}
 use Rattle.record.specs.Words.{rowWords, allRows, stateWord, replyWord, heldOutcome, outcomeWords, runWords, allRuns, rowOf, liveRows}
 use Rattle.record.specs.View.{numbersFrom}
 use Rattle.record.proofs.Rows.{shift-padded, numbers-same, numbers-whole}
-use Rattle.record.proofs.Back.{eights-first, eights-rest, row-read, number-back, length-run, length-runs, run-read, length-flat, flat-append}
+use Rattle.record.proofs.Back.{eights-first, eights-rest, row-read, number-back, length-run, length-runs, runs-append, run-read, length-flat, flat-append}
 use Rattle.engine.specs.declared.course.Course.{Course}
 use Rattle.engine.specs.Work.{Work, Fair, Dropped, SettledOne, SettledTo, Singles, Fronted, Settled, leftBy, withAnswers}
 use Rattle.rows.specs.Rows.{holdsRow, heldRow, multiRow, sentRow, runRow}
 use Rattle.rows.proofs.Rooms.{answer-row, room-more}
 use Rattle.model.specs.Parts.{All}
+use Rattle.model.specs.Refusals.{isReply}
 use Rattle.record.specs.Fitting.{Eight, Fit, Known}
 use Rattle.record.specs.Widths.{liveWidth, runWidth, liveLength, runsLength, undoLength}
 
@@ -40,11 +41,13 @@ sent-words : (u : Uncommitted) → runRow (getD (runWords u) 0 0) (getD (runWord
 unfolding runWords padded
 sent-words u = refl
 
--- words laid over the front of a row
-pub sets-front : (x z w : List ℕ) → length x ≡ length w → sets (x ++ z) 0 w ≡ w ++ z
-sets-front x z w e =
-    let n : 0 + length w ≡ length x = omega arith in
-    sets-eq w (x ++ z) 0 (omega (arith, length-append x z)) ∙ append-assoc [] w (drop (0 + length w) (x ++ z)) ∙ ap (λ (k : ℕ). w ++ drop k (x ++ z)) n ∙ ap (λ (l : List ℕ). w ++ l) (drop-at x z (length x) refl)
+-- words laid over others of the same length in a row
+sets-middle : (a x z w : List ℕ) → length x ≡ length w → sets (a ++ (x ++ z)) (length a) w ≡ a ++ (w ++ z)
+sets-middle a x z w e =
+    let n : length a + length w ≡ length (a ++ x) = omega (arith, length-append a x) in
+    let l : List ℕ = a ++ (x ++ z) in
+    sets-eq w l (length a) (omega (arith, length-append a (x ++ z), length-append x z)) ∙ append-assoc (take (length a) l) w (drop (length a + length w) l)
+    ∙ (λ i. take-at a (x ++ z) (length a) refl i ++ (w ++ (ap (λ (k : ℕ). drop k l) n ∙ ap (drop (length (a ++ x))) (sym (append-assoc a x z)) ∙ drop-at (a ++ x) z (length (a ++ x)) refl) i))
 
 -- The first of the queue leaves it
 
@@ -79,82 +82,87 @@ dropped runs undo runs′ undo′ c c′ own e fair eo ee er eu ec live room gon
       enough = w .enough;
     }
 
--- What a run holds
+-- What a run holds: that of the one behind P, whose words start at b
 
-module _ (u : Uncommitted) (us : List Uncommitted) (runs : List ℕ) (k : All Known (u ∷ us)) (e : runs ≡ padded runsLength (allRuns (u ∷ us))) where
-  pub first-word : (j : ℕ) → j < runWidth → getD runs j 0 ≡ getD (runWords u) j 0
-  first-word j h = ap (λ (l : List ℕ). getD l j 0) e ∙ (let z : j ≡ 0 + j = omega arith in ap (λ (x : ℕ). getD (padded runsLength (allRuns (u ∷ us))) x 0) z) ∙ run-read runsLength [] u us 0 j tt (k .0 .0) refl h
+module _ (P : List Uncommitted) (u : Uncommitted) (us : List Uncommitted) (runs : List ℕ) (b : ℕ) (fp : All Fit P) (k : Known u) (eb : runWidth * length P ≡ b) (e : runs ≡ padded runsLength (allRuns (P ++ u ∷ us))) where
+  pub run-word : (j : ℕ) → j < runWidth → getD runs (b + j) 0 ≡ getD (runWords u) j 0
+  run-word j h = ap (λ (l : List ℕ). getD l (b + j) 0) e ∙ run-read runsLength P u us b j fp (k .0) eb h
 
-  held-words : numbersFrom runs 4 10 ≡ outcomeWords (heldOutcome (u .reply))
+  held-words : numbersFrom runs (b + 4) 10 ≡ outcomeWords (heldOutcome (u .reply))
   unfolding runWords
   held-words =
       let o : Outcome = heldOutcome (u .reply) in
-      let lo : length (outcomeWords o) ≡ 10 = omega (arith, length-padded 8 (o .numbers) (k .0 .0)) in
-      numbers-same runs (outcomeWords o) 4 0 10
-      (λ j h. first-word (4 + j) (omega arith)
+      let lo : length (outcomeWords o) ≡ 10 = omega (arith, length-padded 8 (o .numbers) (k .0)) in
+      numbers-same runs (outcomeWords o) (b + 4) 0 10
+      (λ j h. (let z : b + 4 + j ≡ b + (4 + j) = omega arith in ap (λ (x : ℕ). getD runs x 0) z) ∙ run-word (4 + j) (omega arith)
       ∙ getD-append-add (u .ran ∷ stateWord (u .state) ∷ replyWord (u .reply) ∷ length (u .undo) ∷ []) (outcomeWords o ++ (0 ∷ 0 ∷ [])) j 0
       ∙ List·getD-append (outcomeWords o) (0 ∷ 0 ∷ []) 0 j (omega arith) ∙ (let z : j ≡ 0 + j = omega arith in ap (λ (x : ℕ). getD (outcomeWords o) x 0) z))
       ∙ ap (numbersFrom (outcomeWords o) 0) (sym lo) ∙ numbers-whole (outcomeWords o)
 
-  -- the room after what it holds was sent
-  pub held-room : (sent : List Answer) (room room′ room₀ : List ℕ) (a n : ℕ) → n ≡ u .number → room ≡ filled sent room₀ → length sent ≡ a → answerWords * (a + 1) ≤ length room₀
-      → room′ ≡ pick (holdsRow runs 0) (sets room (answerWords * a) (heldRow runs 0 n 0)) room → room′ ≡ filled (sent ++ heldBy u) room₀
-  held-room sent room room′ room₀ a n en er el h h′ = h′ ∙ ap (λ (b : Bool). pick b (sets room (answerWords * a) (heldRow runs 0 n 0)) room) word ∙ go (u .reply) refl
-    where
-      word : holdsRow runs 0 ≡ eqb (replyWord (u .reply)) 1
-      word = ap (λ (x : ℕ). eqb x 1) (first-word 2 (omega arith) ∙ run-word-2 u)
+  pub holds-word : holdsRow runs b ≡ eqb (replyWord (u .reply)) 1
+  holds-word = ap (λ (x : ℕ). eqb x 1) (run-word 2 (omega arith) ∙ run-word-2 u)
 
-      go : (r : Reply) → u .reply ≡ r → pick (eqb (replyWord r) 1) (sets room (answerWords * a) (heldRow runs 0 n 0)) room ≡ filled (sent ++ elim r as (λ _. List Answer) [ Held o ↦ answer (u .number) 0 o ∷ [] | Sent ↦ [] | NoReply ↦ [] ]) room₀
+  -- the room after what it holds was sent with a dependence
+  pub held-room : (d : ℕ) (sent : List Answer) (room room′ room₀ : List ℕ) (a n : ℕ) → n ≡ u .number → room ≡ filled sent room₀ → length sent ≡ a → answerWords * (a + 1) ≤ length room₀
+      → room′ ≡ pick (holdsRow runs b) (sets room (answerWords * a) (heldRow runs b n d)) room → room′ ≡ filled (sent ++ heldWith d u) room₀
+  held-room d sent room room′ room₀ a n en er el h h′ = h′ ∙ ap (λ (z : Bool). pick z (sets room (answerWords * a) (heldRow runs b n d)) room) holds-word ∙ go (u .reply) refl
+    where
+      go : (r : Reply) → u .reply ≡ r → pick (eqb (replyWord r) 1) (sets room (answerWords * a) (heldRow runs b n d)) room ≡ filled (sent ++ elim r as (λ _. List Answer) [ Held o ↦ answer (u .number) d o ∷ [] | Sent ↦ [] | NoReply ↦ [] ]) room₀
       go (Held o) q =
-          (λ i. sets (er i) (answerWords * a) (en i ∷ 0 ∷ (held-words ∙ ap (λ (r : Reply). outcomeWords (heldOutcome r)) q) i ++ (0 ∷ 0 ∷ 0 ∷ 0 ∷ [])))
-          ∙ ap (sets (filled sent room₀) (answerWords * a)) (answer-row (u .number) 0 o (subst (λ (r : Reply). length (heldOutcome r .numbers) ≤ 8) q (k .0 .0)))
-          ∙ room-more sent (answer (u .number) 0 o) room₀ a el h
+          (λ i. sets (er i) (answerWords * a) (en i ∷ d ∷ (held-words ∙ ap (λ (r : Reply). outcomeWords (heldOutcome r)) q) i ++ (0 ∷ 0 ∷ 0 ∷ 0 ∷ [])))
+          ∙ ap (sets (filled sent room₀) (answerWords * a)) (answer-row (u .number) d o (subst (λ (r : Reply). length (heldOutcome r .numbers) ≤ 8) q (k .0)))
+          ∙ room-more sent (answer (u .number) d o) room₀ a el h
       go Sent q = er ∙ ap (λ (l : List Answer). filled l room₀) (sym (append-nil sent))
       go NoReply q = er ∙ ap (λ (l : List Answer). filled l room₀) (sym (append-nil sent))
 
-  pub held-count : (sent : List Answer) (a a′ : ℕ) → length sent ≡ a → a′ ≡ pick (holdsRow runs 0) (a + 1) a → length (sent ++ heldBy u) ≡ a′
-  held-count sent a a′ el ea = go (u .reply) ∙ sym (ea ∙ ap (λ (b : Bool). pick b (a + 1) a) word)
+  pub held-count : (d : ℕ) (sent : List Answer) (a a′ : ℕ) → length sent ≡ a → a′ ≡ pick (holdsRow runs b) (a + 1) a → length (sent ++ heldWith d u) ≡ a′
+  held-count d sent a a′ el ea = go (u .reply) ∙ sym (ea ∙ ap (λ (z : Bool). pick z (a + 1) a) holds-word)
     where
-      word : holdsRow runs 0 ≡ eqb (replyWord (u .reply)) 1
-      word = ap (λ (x : ℕ). eqb x 1) (first-word 2 (omega arith) ∙ run-word-2 u)
-
-      go : (r : Reply) → length (sent ++ elim r as (λ _. List Answer) [ Held o ↦ answer (u .number) 0 o ∷ [] | Sent ↦ [] | NoReply ↦ [] ]) ≡ pick (eqb (replyWord r) 1) (a + 1) a
-      go (Held o) = length-append sent (answer (u .number) 0 o ∷ []) ∙ ap (λ (x : ℕ). x + 1) el
+      go : (r : Reply) → length (sent ++ elim r as (λ _. List Answer) [ Held o ↦ answer (u .number) d o ∷ [] | Sent ↦ [] | NoReply ↦ [] ]) ≡ pick (eqb (replyWord r) 1) (a + 1) a
+      go (Held o) = length-append sent (answer (u .number) d o ∷ []) ∙ ap (λ (x : ℕ). x + 1) el
       go Sent = ap length (append-nil sent) ∙ el
       go NoReply = ap length (append-nil sent) ∙ el
 
+  -- one that holds nothing has sent it
+  pub not-held : (d : ℕ) → holdsRow runs b ≡ false → (sent u ≡ u) × (heldWith d u ≡ [])
+  not-held d h = go (u .reply) refl (k .2) (sym holds-word ∙ h)
+    where
+      go : (r : Reply) → u .reply ≡ r → isReply r ≡ true → eqb (replyWord r) 1 ≡ false → (sent u ≡ u) × _≡_ {A = List Answer} (elim r as (λ _. List Answer) [ Held o ↦ answer (u .number) d o ∷ [] | Sent ↦ [] | NoReply ↦ [] ]) []
+      go (Held o) q r z = absurd (true≢false z)
+      go Sent q r z = ((λ i. record { number = u .number; first = u .first; ran = u .ran; state = u .state; reply = sym q i; undo = u .undo }), refl)
+      go NoReply q r z = absurd (true≢false (sym r))
+
   -- another run laid over its own
-  pub front-runs : (v : Uncommitted) (w runs′ : List ℕ) → Fit v → w ≡ runWords v → runs′ ≡ sets runs 0 w → runs′ ≡ padded runsLength (allRuns (v ∷ us))
+  pub run-over : (v : Uncommitted) (w runs′ : List ℕ) → Fit v → w ≡ runWords v → runs′ ≡ sets runs b w → runs′ ≡ padded runsLength (allRuns (P ++ v ∷ us))
   unfolding padded allRuns
-  front-runs v w runs′ fit ew h =
-      let lu : length (runWords u) ≡ runWidth = length-run u (k .0 .0) in
+  run-over v w runs′ fit ew h =
+      let lu : length (runWords u) ≡ runWidth = length-run u (k .0) in
       let lv : length (runWords v) ≡ runWidth = length-run v fit in
-      let rest : List ℕ = allRuns us ++ replicate (runsLength - length (runWords u ++ allRuns us)) 0 in
-      let shape : padded runsLength (allRuns (u ∷ us)) ≡ runWords u ++ rest = append-assoc (runWords u) (allRuns us) (replicate (runsLength - length (runWords u ++ allRuns us)) 0) in
-      let size : length (runWords u ++ allRuns us) ≡ length (runWords v ++ allRuns us) = length-append (runWords u) (allRuns us) ∙ ap (λ (x : ℕ). x + length (allRuns us)) (lu ∙ sym lv) ∙ sym (length-append (runWords v) (allRuns us)) in
-      h ∙ (λ i. sets ((e ∙ shape) i) 0 (ew i)) ∙ sets-front (runWords u) rest (runWords v) (lu ∙ sym lv)
-      ∙ sym (append-assoc (runWords v) (allRuns us) (replicate (runsLength - length (runWords u ++ allRuns us)) 0))
-      ∙ ap (λ (n : ℕ). (runWords v ++ allRuns us) ++ replicate (runsLength - n) 0) size
+      let lp : length (allRuns P) ≡ b = length-runs P fp ∙ eb in
+      let rest : List ℕ = allRuns us ++ replicate (runsLength - length (allRuns (P ++ u ∷ us))) 0 in
+      let shape : padded runsLength (allRuns (P ++ u ∷ us)) ≡ allRuns P ++ (runWords u ++ rest) =
+      ap (λ (l : List ℕ). l ++ replicate (runsLength - length (allRuns (P ++ u ∷ us))) 0) (runs-append P (u ∷ us)) ∙ append-assoc (allRuns P) (runWords u ++ allRuns us) (replicate (runsLength - length (allRuns (P ++ u ∷ us))) 0)
+      ∙ ap (λ (l : List ℕ). allRuns P ++ l) (append-assoc (runWords u) (allRuns us) (replicate (runsLength - length (allRuns (P ++ u ∷ us))) 0)) in
+      let size : length (allRuns (P ++ u ∷ us)) ≡ length (allRuns (P ++ v ∷ us)) =
+      omega (arith, ap length (runs-append P (u ∷ us)), ap length (runs-append P (v ∷ us)), length-append (allRuns P) (runWords u ++ allRuns us), length-append (allRuns P) (runWords v ++ allRuns us), length-append (runWords u) (allRuns us), length-append (runWords v) (allRuns us), lu, lv) in
+      h ∙ (λ i. sets ((e ∙ shape) i) (sym lp i) (ew i)) ∙ sets-middle (allRuns P) (runWords u) rest (runWords v) (lu ∙ sym lv)
+      ∙ ap (λ (l : List ℕ). allRuns P ++ l) (sym (append-assoc (runWords v) (allRuns us) (replicate (runsLength - length (allRuns (P ++ u ∷ us))) 0)))
+      ∙ sym (append-assoc (allRuns P) (runWords v ++ allRuns us) (replicate (runsLength - length (allRuns (P ++ u ∷ us))) 0))
+      ∙ ap (λ (l : List ℕ). l ++ replicate (runsLength - length (allRuns (P ++ u ∷ us))) 0) (sym (runs-append P (v ∷ us)))
+      ∙ ap (λ (n : ℕ). allRuns (P ++ v ∷ us) ++ replicate (runsLength - n) 0) size
 
   -- its run once its answer is sent
-  pub sent-runs : (runs′ : List ℕ) → runs′ ≡ sets runs 0 (sentRow runs 0) → runs′ ≡ padded runsLength (allRuns (sent u ∷ us))
+  pub sent-runs : (runs′ : List ℕ) → runs′ ≡ sets runs b (sentRow runs b) → runs′ ≡ padded runsLength (allRuns (P ++ sent u ∷ us))
   sent-runs runs′ h =
-      front-runs (sent u) (sentRow runs 0) runs′ (omega arith)
-      ((λ i. runRow (first-word 0 (omega arith) i) (first-word 1 (omega arith) i) 0 (first-word 3 (omega arith) i) 0 0 (replicate 8 0)) ∙ sent-words u) h
-
-settled-multi : (u : Uncommitted) (us : List Uncommitted) → multi (u .first) ≡ true → settled (u ∷ us) ≡ record { uncommitted = sent u ∷ us; answers = heldBy u; settles = [] }
-unfolding settled
-settled-multi u us e =
-    ap {B = Place} (λ (b : Bool). elim b [
-      | true ↦ record { uncommitted = sent u ∷ us; answers = heldBy u; settles = [] }
-      | false ↦ record { uncommitted = settled us .uncommitted; answers = heldBy u ++ settled us .answers; settles = u .number ∷ settled us .settles }
-    ]) e
+      let zero-word : getD runs b 0 ≡ getD (runWords u) 0 0 = (let z : b ≡ b + 0 = omega arith in ap (λ (x : ℕ). getD runs x 0) z) ∙ run-word 0 (omega arith) in
+      run-over (sent u) (sentRow runs b) runs′ (omega arith)
+      ((λ i. runRow (zero-word i) (run-word 1 (omega arith) i) 0 (run-word 3 (omega arith) i) 0 0 (replicate 8 0)) ∙ sent-words u) h
 
 settled-single : (u : Uncommitted) (us : List Uncommitted) → multi (u .first) ≡ false → settled (u ∷ us) ≡ record { uncommitted = settled us .uncommitted; answers = heldBy u ++ settled us .answers; settles = u .number ∷ settled us .settles }
 unfolding settled
 settled-single u us e =
     ap {B = Place} (λ (b : Bool). elim b [
-      | true ↦ record { uncommitted = sent u ∷ us; answers = heldBy u; settles = [] }
+      | true ↦ record { uncommitted = sent u ∷ released (u ∷ []) us .uncommitted; answers = heldBy u ++ released (u ∷ []) us .answers; settles = [] }
       | false ↦ record { uncommitted = settled us .uncommitted; answers = heldBy u ++ settled us .answers; settles = u .number ∷ settled us .settles }
     ]) e
 
@@ -179,12 +187,12 @@ module _ (live runs undo room runs′ undo′ room′ : List ℕ) (c d c′ : Co
         at-live = x .at-live;
         at-runs = x .at-runs;
         at-undo = x .at-undo;
-        at-room = held-room u us runs k (w .at-runs) sent room room′ room₀ (c .answers) number (front-number gone u us ws sent room₀ w) (w .at-room) (w .answers) (fits gone u us ws sent room₀ w) er;
+        at-room = held-room [] u us runs 0 tt (k .0) refl (w .at-runs) 0 sent room room′ room₀ (c .answers) number (front-number gone u us ws sent room₀ w) (w .at-room) (w .answers) (fits gone u us ws sent room₀ w) er;
         first = x .first ∙ sym (ap (λ (y : Course). y .first) ec);
         uncommitted = x .uncommitted ∙ sym (ap (λ (y : Course). y .counts .uncommitted) ec);
         waiting = x .waiting ∙ sym (ap (λ (y : Course). y .counts .waiting) ec);
         entries = x .entries ∙ sym (ap (λ (y : Course). y .entries) ec);
-        answers = held-count u us runs k (w .at-runs) sent (c .answers) a (w .answers) ea ∙ sym (ap (λ (y : Course). y .answers) ec);
+        answers = held-count [] u us runs 0 tt (k .0) refl (w .at-runs) 0 sent (c .answers) a (w .answers) ea ∙ sym (ap (λ (y : Course). y .answers) ec);
         eights = x .eights;
         enough = x .enough;
       }
@@ -205,26 +213,6 @@ module _ (live runs undo room runs′ undo′ room′ : List ℕ) (c d c′ : Co
           under : (b : Bool) → a ≡ pick b (c .answers + 1) (c .answers) → a ≤ c .answers + 1
           under true h = omega arith
           under false h = omega arith
-
-  -- a multi is first: the new front
-  pub fronted : runs′ ≡ sets runs 0 (sentRow runs 0) → c′ ≡ withAnswers a c → (gone : List Waiting) (u : Uncommitted) (us : List Uncommitted) (ws : List Waiting) (sent′ : List Answer) (room₀ : List ℕ)
-      → Work live runs undo room c gone (u ∷ us) ws sent′ room₀ → All Known (u ∷ us) → multi (u .first) ≡ true
-      → Work live runs′ undo room′ c′ gone (settled (u ∷ us) .uncommitted) ws (sent′ ++ settled (u ∷ us) .answers) room₀
-  fronted eu ec gone u us ws sent′ room₀ w k m =
-      subst (λ (p : Place). Work live runs′ undo room′ c′ gone (p .uncommitted) ws (sent′ ++ p .answers) room₀) (sym (settled-multi u us m))
-      (record {
-        at-live = w .at-live;
-        at-runs = sent-runs u us runs k (w .at-runs) runs′ eu;
-        at-undo = w .at-undo;
-        at-room = held-room u us runs k (w .at-runs) sent′ room room′ room₀ (c .answers) number (front-number gone u us ws sent′ room₀ w) (w .at-room) (w .answers) (fits gone u us ws sent′ room₀ w) er;
-        first = w .first ∙ sym (ap (λ (y : Course). y .first) ec);
-        uncommitted = w .uncommitted ∙ sym (ap (λ (y : Course). y .counts .uncommitted) ec);
-        waiting = w .waiting ∙ sym (ap (λ (y : Course). y .counts .waiting) ec);
-        entries = w .entries ∙ sym (ap (λ (y : Course). y .entries) ec);
-        answers = held-count u us runs k (w .at-runs) sent′ (c .answers) a (w .answers) ea ∙ sym (ap (λ (y : Course). y .answers) ec);
-        eights = w .eights;
-        enough = w .enough;
-      })
 
 -- Singles settle until a multi is first
 
@@ -287,15 +275,3 @@ settled-both live runs undo room runs₁ undo₁ room₁ runs₂ room₂ c c₁ 
       subst (λ (p : Place). Work live runs₂ undo₁ room₂ c₂ (m .gone) (p .uncommitted) ws (sent ++ p .answers) room₀) (sym (m .rest))
           (subst (λ (x : List Answer). Work live runs₂ undo₁ room₂ c₂ (m .gone) (settled (m .left) .uncommitted) ws x room₀) (append-assoc sent (m .more) (settled (m .left) .answers)) (two undo₁ (m .gone) (m .left) ws (sent ++ m .more) room₀ (m .work) (m .known) (s .1))),
     )
-
--- the new front, or none
-pub fronted-none : (live runs room : List ℕ) (c : Course) → c .counts .uncommitted ≡ 0 → Fronted live runs room c runs room c
-unfolding settled
-fronted-none live runs room c z undo gone [] ws sent room₀ w k h = subst (λ (x : List Answer). Work live runs undo room c gone [] ws x room₀) (sym (append-nil sent)) w
-fronted-none live runs room c z undo gone (u ∷ us) ws sent room₀ w k h = absurd (omega (arith, w .uncommitted, z))
-
-pub fronted-some : (live runs room runs′ room′ : List ℕ) (c c′ : Course) (number a : ℕ) → Fair c → 0 < c .counts .uncommitted → number ≡ getD live (liveWidth * c .first) 0 → a ≡ pick (holdsRow runs 0) (c .answers + 1) (c .answers)
-    → room′ ≡ pick (holdsRow runs 0) (sets room (answerWords * c .answers) (heldRow runs 0 number 0)) room → runs′ ≡ sets runs 0 (sentRow runs 0) → c′ ≡ withAnswers a c → Fronted live runs room c runs′ room′ c′
-fronted-some live runs room runs′ room′ c c′ number a fair some en ea er eu ec undo gone [] ws sent room₀ w k h = absurd (omega (arith, w .uncommitted))
-fronted-some live runs room runs′ room′ c c′ number a fair some en ea er eu ec undo gone (u ∷ us) ws sent room₀ w k h =
-    fronted live runs undo room runs′ undo room′ c c c′ number a fair some en ea er eu ec gone u us ws sent room₀ w k (not-false (multi (u .first)) h)

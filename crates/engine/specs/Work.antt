@@ -5,9 +5,9 @@ use mathlib.Core.Bool.{true, false, not}
 use mathlib.Core.List.{List, [], _∷_, _++_, map}
 use lib.ListN.{length}
 use Rattle.model.specs.Limits.{leastRoom}
-use Rattle.model.specs.Operations.{Cells, multi}
+use Rattle.model.specs.Operations.{Cells, multi, pick}
 use Rattle.model.specs.Transactions.{Uncommitted, Waiting, Answer, answer, undoList, filled, front}
-use Rattle.model.specs.Steps.{run, requeued, mayTake, placed, Queues, drain, again, heldBy, sent, settled, undone}
+use Rattle.model.specs.Steps.{run, requeued, mayTake, placed, Queues, drain, again, heldWith, heldBy, sent, settled, undone}
 use Rattle.model.specs.declared.Fragment.{Fragment}
 use Rattle.model.specs.declared.Scheme.{Scheme}
 use Rattle.operations.specs.Laid.{padded, flat}
@@ -121,6 +121,14 @@ Singles live runs undo room c runs′ undo′ room′ c′ =
     (gone : List Waiting) (us : List Uncommitted) (ws : List Waiting) (sent : List Answer) (room₀ : List ℕ) → Work live runs undo room c gone us ws sent room₀ → All Known us
     → (s : SettledTo live runs′ undo′ room′ c′ us ws sent room₀) × (front (λ (u : Uncommitted). not (multi (u .first))) (s .left) ≡ false)
 
+-- the one behind P is sent what it holds, if it is a multi
+abbrev pub ReleasedOne : List ℕ → List ℕ → List ℕ → Course → ℕ → ℕ → List ℕ → List ℕ → Course → Type 0
+ReleasedOne live runs room c i near runs′ room′ c′ =
+    (undo : List ℕ) (gone : List Waiting) (P : List Uncommitted) (u : Uncommitted) (us : List Uncommitted) (ws : List Waiting) (sent′ : List Answer) (room₀ : List ℕ)
+    → Work live runs undo room c gone (P ++ u ∷ us) ws sent′ room₀ → All Known (P ++ u ∷ us) → length P ≡ i
+    → Work live runs′ undo room′ c′ gone (P ++ pick (multi (u .first)) (sent u) u ∷ us) ws (sent′ ++ pick (multi (u .first)) (heldWith near u) []) room₀
+
+-- a multi is first: it is answered, and what is released behind it
 abbrev pub Fronted : List ℕ → List ℕ → List ℕ → Course → List ℕ → List ℕ → Course → Type 0
 Fronted live runs room c runs′ room′ c′ =
     (undo : List ℕ) (gone : List Waiting) (us : List Uncommitted) (ws : List Waiting) (sent : List Answer) (room₀ : List ℕ) → Work live runs undo room c gone us ws sent room₀ → All Known us

@@ -1,8 +1,8 @@
-// "Commit of the front": it settles, then the singles behind it; the new front is answered.
+// "Commit of the front": it settles, then the singles behind it; the new front is answered, and those behind it that may be.
 ghost use mathlib.Core.Path.{_≡_};
 ghost use Prim.Native.Nat.{_+_, _*_, _≤_, _<_};
 ghost use lib.Seq.{sets};
-ghost use Rattle.engine.specs.Work.{Kept, withAnswers, Fair, Dropped, SettledOne, Singles, Fronted, Settled, Committed};
+ghost use Rattle.engine.specs.Work.{Kept, withAnswers, Fair, Dropped, SettledOne, Singles, ReleasedOne, Fronted, Settled, Committed};
 ghost use Rattle.model.specs.Limits.{answerWords};
 ghost use Rattle.record.specs.Widths.{runWidth};
 ghost use Rattle.rows.specs.Rows.{holdsRow, heldRow, sentRow};
@@ -116,22 +116,59 @@ pub(crate) fn mark_sent(runs: &mut [u32], i: u32)
     record::lay(runs, record::RUN_WIDTH * i, &w, record::RUN_WIDTH);
 }
 
-// "That one is the new front; if its answer was held, it is sent now with dependence 0".
-pub(crate) fn new_front(live: &[u32], runs: &mut [u32], room: &mut [u32], c: Course) -> Course
-    requires { ⌜ Fair c ⌝ }
-    ensures { λ d. ⌜ d ≡ withAnswers (d .answers) c ⌝ }
-    ensures { λ d. ⌜ Fronted (now (live .entry)) (now (runs .entry)) (now (room .entry)) c (now (runs .exit)) (now (room .exit)) d ⌝ }
+// Run number i is sent what it holds, with a dependence, if it is a multi's and holds its answer; its run says so then.
+pub(crate) fn release_one(
+    live: &[u32],
+    runs: &mut [u32],
+    room: &mut [u32],
+    c: Course,
+    i: u32,
+    near: u32,
+) -> Course
+    requires { ⌜ (c .first + i ≤ 64) × (i ≤ 16) × (c .answers < 64) ⌝ }
+    ensures { λ d. ⌜ (d ≡ withAnswers (d .answers) c) × (d .answers ≤ c .answers + 1) ⌝ }
+    ensures { λ d. ⌜ ReleasedOne (now (live .entry)) (now (runs .entry)) (now (room .entry)) c i near (now (runs .exit)) (now (room .exit)) d ⌝ }
 {
-    if c.counts.uncommitted == 0 {
+    let at = record::LIVE_WIDTH * (c.first + i);
+    if !rows::is_multi_row(live, at) {
         return c;
     }
-    let number = operations::number_at(live, record::LIVE_WORDS * c.first as usize);
-    let answers = put_held(room, c.answers, runs, 0, number, 0);
-    mark_sent(runs, 0);
+    let number = operations::number_at(live, at as usize);
+    let answers = put_held(room, c.answers, runs, i, number, near);
+    // most hold nothing
+    if answers == c.answers {
+        return c;
+    }
+    mark_sent(runs, i);
     c.sends(answers)
 }
 
-// What a commit leaves behind the front: singles settled, a new front that is answered.
+// "That one is the new front; if its answer was held, it is sent now with dependence 0". Then 02's L6: "held answers are looked at in queue
+// order, and each multi for which the multis ahead of it and itself have one coordinator is answered with its dependence": the front's
+// coordinator, up to the first multi of another one.
+pub(crate) fn release(live: &[u32], runs: &mut [u32], room: &mut [u32], from: Course) -> Course
+    requires { ⌜ Fair from ⌝ }
+    ensures { λ d. ⌜ d ≡ withAnswers (d .answers) from ⌝ }
+    ensures { λ d. ⌜ Fronted (now (live .entry)) (now (runs .entry)) (now (room .entry)) from (now (runs .exit)) (now (room .exit)) d ⌝ }
+{
+    let front = record::LIVE_WORDS * from.first as usize;
+    let k = operations::number_at(live, front + 2);
+    let mut c = from;
+    let mut near: u32 = 0;
+    let mut i: u32 = 0;
+    while i < from.counts.uncommitted {
+        let at = record::LIVE_WIDTH * (from.first + i);
+        if !rows::same_coordinator(live, at, k) {
+            return c;
+        }
+        c = release_one(live, runs, room, c, i, near);
+        near = rows::nearer(live, at, near);
+        i = i + 1;
+    }
+    c
+}
+
+// What a commit leaves behind the front: singles settled, a new front that is answered, and what is released behind it.
 pub(crate) fn settle(
     live: &[u32],
     runs: &mut [u32],
@@ -146,7 +183,7 @@ pub(crate) fn settle(
     ensures { λ d. ⌜ Kept c d ⌝ }
 {
     let d = settle_singles(live, runs, undo, room, c);
-    new_front(live, runs, room, d)
+    release(live, runs, room, d)
 }
 
 // "Commit of the front: it settles. Then singles settle .."; the drain is still to come.

@@ -1,4 +1,4 @@
--- The steps by their cases: what holds of each case of a placing, of settling, of a drain and of a held answer holds of the whole, and what
+-- The steps by their cases: what holds of each case of a placing, of releasing, of settling, of a drain and of a held answer holds of the whole, and what
 -- holds of each kind of request holds of an event's. The proofs about the steps go by these.
 use Prim.Native.Nat.{ℕ}
 use mathlib.Core.Path.{_≡_, refl}
@@ -7,7 +7,7 @@ use mathlib.Core.List.{List, [], _∷_, _++_}
 use lib.Dec.{eqb}
 use Rattle.model.specs.Operations.{Cells, Outcome, multi}
 use Rattle.model.specs.Transactions.{Reply, Held, Sent, NoReply, holds, Uncommitted, Waiting, Answer, answer}
-use Rattle.model.specs.Steps.{Ran, run, begun, oneCoordinator, nearest, mayTake, Place, placed, Queues, sending, drain, heldBy, sent, settled}
+use Rattle.model.specs.Steps.{Ran, run, begun, oneCoordinator, nearest, mayTake, Place, placed, Queues, sending, drain, heldWith, heldBy, sent, released, settled}
 use Rattle.model.specs.Refusals.{Request, Arrive, Commit, Abort, request}
 use Rattle.model.specs.declared.Event.{Event}
 use Rattle.model.specs.declared.Scheme.{Scheme}
@@ -40,14 +40,32 @@ module _ (P : Place → Type 0) where
       go false e = held
       go true e = now-sent (and-left (multi (w .fragment)) (oneCoordinator (w .fragment .coordinator) (u ∷ us)) e)
 
-  pub settled-cases : (u : Uncommitted) (us : List Uncommitted) → (multi (u .first) ≡ true → P (record { uncommitted = sent u ∷ us; answers = heldBy u; settles = [] }))
+  -- one of those behind the front: it stays as it is, or it is a multi and released; the rest comes after it
+  pub released-cases : (ahead : List Uncommitted) (u : Uncommitted) (us : List Uncommitted)
+      → P (record { uncommitted = u ∷ released (ahead ++ (u ∷ [])) us .uncommitted; answers = released (ahead ++ (u ∷ [])) us .answers; settles = [] })
+      → (multi (u .first) ≡ true → P (record { uncommitted = sent u ∷ released (ahead ++ (u ∷ [])) us .uncommitted; answers = heldWith (nearest 0 ahead) u ++ released (ahead ++ (u ∷ [])) us .answers; settles = [] }))
+      → P (released ahead (u ∷ us))
+  unfolding released
+  released-cases ahead u us stays goes = go (multi (u .first)) _ refl
+    where
+      go : (a b : Bool) → multi (u .first) ≡ a
+          → P (elim (a && b) [
+            | false ↦ record { uncommitted = u ∷ released (ahead ++ (u ∷ [])) us .uncommitted; answers = released (ahead ++ (u ∷ [])) us .answers; settles = [] }
+            | true ↦ record { uncommitted = sent u ∷ released (ahead ++ (u ∷ [])) us .uncommitted; answers = heldWith (nearest 0 ahead) u ++ released (ahead ++ (u ∷ [])) us .answers; settles = [] }
+          ])
+      go false b e = stays
+      go true false e = stays
+      go true true e = goes e
+
+  pub settled-cases : (u : Uncommitted) (us : List Uncommitted)
+      → (multi (u .first) ≡ true → P (record { uncommitted = sent u ∷ released (u ∷ []) us .uncommitted; answers = heldBy u ++ released (u ∷ []) us .answers; settles = [] }))
       → (multi (u .first) ≡ false → P (record { uncommitted = settled us .uncommitted; answers = heldBy u ++ settled us .answers; settles = u .number ∷ settled us .settles })) → P (settled (u ∷ us))
   unfolding settled
   settled-cases u us front single = go (multi (u .first)) refl
     where
       go : (b : Bool) → multi (u .first) ≡ b
           → P (elim b [
-            | true ↦ record { uncommitted = sent u ∷ us; answers = heldBy u; settles = [] }
+            | true ↦ record { uncommitted = sent u ∷ released (u ∷ []) us .uncommitted; answers = heldBy u ++ released (u ∷ []) us .answers; settles = [] }
             | false ↦ record { uncommitted = settled us .uncommitted; answers = heldBy u ++ settled us .answers; settles = u .number ∷ settled us .settles }
           ])
       go true e = front e
@@ -68,10 +86,10 @@ drain-cases P σ cs us w ws stays takes = go (mayTake σ us) refl
     go false e = stays e
     go true e = takes e
 
-pub held-cases : (P : List Answer → Type 0) (u : Uncommitted) → ((o : Outcome) → u .reply ≡ Held o → P (answer (u .number) 0 o ∷ [])) → (holds (u .reply) ≡ false → P []) → P (heldBy u)
-held-cases P u held none = go (u .reply) refl (λ e. none e)
+pub held-cases : (P : List Answer → Type 0) (d : ℕ) (u : Uncommitted) → ((o : Outcome) → u .reply ≡ Held o → P (answer (u .number) d o ∷ [])) → (holds (u .reply) ≡ false → P []) → P (heldWith d u)
+held-cases P d u held none = go (u .reply) refl (λ e. none e)
   where
-    go : (a : Reply) → u .reply ≡ a → (holds a ≡ false → P []) → P (elim a [ Held o ↦ answer (u .number) 0 o ∷ [] | Sent ↦ [] | NoReply ↦ [] ])
+    go : (a : Reply) → u .reply ≡ a → (holds a ≡ false → P []) → P (elim a [ Held o ↦ answer (u .number) d o ∷ [] | Sent ↦ [] | NoReply ↦ [] ])
     go (Held o) e n = held o e
     go Sent e n = n refl
     go NoReply e n = n refl

@@ -332,6 +332,10 @@ module _ (k : ℕ) (b : Cells) (fs : List Fragment) (u : Uncommitted) (us : List
     foretells = t;
   }))
 
+-- in a queue with the same transactions of the log
+pub pend-same : (k : ℕ) (b : Cells) (fs : List Fragment) (us vs : List Uncommitted) (a : Answer) → lives fs us ≡ lives fs vs → Pend k b fs us a → Pend k b fs vs a
+pend-same k b fs us vs a e p = record { ahead = p .ahead; it = p .it; behind = p .behind; queue = sym e ∙ p .queue; names = p .names; on = p .on; foretells = p .foretells }
+
 -- an answer pends only behind a front
 pub pend-alone : (b : Cells) (fs : List Fragment) (u : Uncommitted) (a : Answer) → (a .dependence ≡ 0 → ⊥) → Pend 0 b fs (u ∷ []) a → ⊥
 pend-alone b fs u a h p = pend-cases 0 b fs u [] a p h (λ A v B q n o t. nothing-pends A v B q)

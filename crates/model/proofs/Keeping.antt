@@ -10,7 +10,7 @@ use lib.ListN.{length, take, length-append, length-map, length-take}
 use Rattle.model.specs.Limits.{mostOperations, mostFragments, depth, mostLive}
 use Rattle.model.specs.Operations.{Cells, Outcome, operate, put, writes, content, multi, last, operations, tells}
 use Rattle.model.specs.Transactions.{State, Running, Finished, Failed, finished, Reply, Held, Sent, NoReply, holds, Uncommitted, Waiting, numbers, Answer, answer, front}
-use Rattle.model.specs.Steps.{noted, Ran, runFrom, run, stateAfter, begun, again, oneCoordinator, nearest, lastFinished, mayTake, Place, placed, Queues, sending, drain, joined, continued, heldBy, sent, settled, committed, requeued, aborted, undone}
+use Rattle.model.specs.Steps.{noted, Ran, runFrom, run, stateAfter, begun, again, oneCoordinator, nearest, lastFinished, mayTake, Place, placed, Queues, sending, drain, joined, continued, heldBy, sent, released, settled, committed, requeued, aborted, undone}
 use Rattle.model.specs.Refusals.{every, inside, formed, storable, behind, ready, fits, isState, isReply}
 use Rattle.model.specs.Demand.{Rises}
 use Rattle.model.specs.declared.Op.{Op}
@@ -21,7 +21,8 @@ use Rattle.model.specs.declared.Did.the-variants.{Number, Fails}
 use Rattle.model.proofs.Chain.{all-append}
 use Rattle.model.proofs.Tests.{both, and-left, and-right, or-left, or-right, or-true, every-append}
 use Rattle.model.proofs.Taking.{may-less, may-finished}
-use Rattle.model.proofs.Branches.{placed-idle, placed-behind, settled-cases, drain-cases, held-cases}
+use Rattle.model.proofs.Branches.{placed-idle, placed-behind, settled-cases, drain-cases}
+use Rattle.model.proofs.Releasing.{released-keeps, released-length, released-all, held-one, released-most}
 use Rattle.model.specs.Parts.{All, cellInside, SoundOne, Stored, badFront, Sound}
 
 -- What a run leaves
@@ -152,9 +153,15 @@ ready-tail : (u : Uncommitted) (us : List Uncommitted) → ready (u ∷ us) ≡ 
 ready-tail u [] r = refl
 ready-tail u (v ∷ us) r = and-right (finished (u .state)) (ready (v ∷ us)) r
 
-ready-same : (u v : Uncommitted) (us : List Uncommitted) → u .state ≡ v .state → ready (u ∷ us) ≡ true → ready (v ∷ us) ≡ true
-ready-same u v [] e r = refl
-ready-same u v (x ∷ us) e r = subst (λ (s : State). (finished s && ready (x ∷ us)) ≡ true) e r
+-- neither asks the replies
+numbers-sent : (ws : List Waiting) (us : List Uncommitted) → numbers (map sent us) ws ≡ numbers us ws
+numbers-sent ws [] = refl
+numbers-sent ws (u ∷ us) = ap {B = List ℕ} (λ (l : List ℕ). u .number ∷ l) (numbers-sent ws us)
+
+ready-sent : (us : List Uncommitted) → ready (map sent us) ≡ ready us
+ready-sent [] = refl
+ready-sent (u ∷ []) = refl
+ready-sent (u ∷ v ∷ us) = ap (λ (b : Bool). finished (u .state) && b) (ready-sent (v ∷ us))
 
 -- Drain
 
@@ -261,9 +268,6 @@ front-leaves ct top u us ws s = record {
   ready = ready-tail u us (s .ready);
 }
 
-held-one : (u : Uncommitted) → length (heldBy u) ≤ 1
-held-one u = held-cases (λ (a : List Answer). length a ≤ 1) u (λ o _. omega arith) (λ _. omega arith)
-
 sent-sound : (ct : ℕ) (u : Uncommitted) → multi (u .first) ≡ true → SoundOne ct u → SoundOne ct (sent u)
 sent-sound ct u e o = record {
   eight = o .eight;
@@ -283,18 +287,18 @@ settled-sound ct top (u ∷ us) ws h = settled-cases (λ (p : Place). Sound ct t
     (λ e. (
       record {
         cells = h .cells;
-        sixteen = h .sixteen;
-        sixtyFour = h .sixtyFour;
-        rises = h .rises;
-        each = (sent-sound ct u e (h .each .0), h .each .1);
+        sixteen = omega (arith, h .sixteen, released-length (u ∷ []) us);
+        sixtyFour = omega (arith, h .sixtyFour, released-length (u ∷ []) us);
+        rises = subst (λ (l : List ℕ). Rises 0 top l) (sym (ap {B = List ℕ} (λ (l : List ℕ). u .number ∷ l) (released-keeps (λ vs. numbers vs ws) (numbers-sent ws) (u ∷ []) us))) (h .rises);
+        each = (sent-sound ct u e (h .each .0), released-all (SoundOne ct) (sent-sound ct) (u ∷ []) us (h .each .1));
         waiting = h .waiting;
-        ones = h .ones .1;
+        ones = released-all (λ (v : Uncommitted). v .ran ≤ 1) (λ v _ k. k) (u ∷ []) us (h .ones .1);
         front = ap (λ (b : Bool). not b || false) e;
-        ready = ready-same u (sent u) us refl (h .ready);
+        ready = released-keeps (λ vs. ready (sent u ∷ vs)) (λ vs. ready-sent (sent u ∷ vs)) (u ∷ []) us ∙ sym (ready-sent (sent u ∷ us)) ∙ ready-sent (u ∷ us) ∙ h .ready;
       },
-      omega (arith, held-one u),
+      omega (arith, held-one 0 u, released-most (u ∷ []) us, length-append (heldBy u) (released (u ∷ []) us .answers)),
     ))
-    (λ _. let x = settled-sound ct top us ws (half-tail ct top u us ws h) in (x .0, omega (arith, held-one u, x .1, length-append (heldBy u) (settled us .answers))))
+    (λ _. let x = settled-sound ct top us ws (half-tail ct top u us ws h) in (x .0, omega (arith, held-one 0 u, x .1, length-append (heldBy u) (settled us .answers))))
 
 -- The four steps
 

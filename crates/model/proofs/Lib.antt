@@ -5,6 +5,7 @@ pub mod Chain
 pub mod Replying
 pub mod Taking
 pub mod Branches
+pub mod Releasing
 pub mod Draining
 pub mod Settling
 pub mod Passing

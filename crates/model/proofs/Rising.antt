@@ -8,12 +8,12 @@ use mathlib.Core.List.{List, [], _∷_, _++_, map, append-assoc}
 use lib.Dec.{ltb, eqb}
 use Rattle.model.specs.Operations.{Cells, multi}
 use Rattle.model.specs.Transactions.{Reply, Held, Sent, NoReply, Uncommitted, Waiting, Engine, Answer, answer, Rising, numbers, front}
-use Rattle.model.specs.Steps.{run, begun, again, oneCoordinator, nearest, mayTake, Place, placed, Queues, sending, drain, joined, continued, arrived, heldBy, sent, settled, committed, requeued, aborted}
+use Rattle.model.specs.Steps.{run, begun, again, oneCoordinator, nearest, mayTake, Place, placed, Queues, sending, drain, joined, continued, arrived, heldWith, heldBy, sent, released, settled, committed, requeued, aborted}
 use Rattle.model.specs.Refusals.{Request, Arrive, Commit, Abort, request, sound, live, new, isFront, Call, refusal, taken, respond, step}
 use Rattle.model.specs.Demand.{Rises}
 use Rattle.model.specs.declared.Fragment.{Fragment}
 use Rattle.model.specs.declared.Scheme.{Scheme}
-use Rattle.model.proofs.Branches.{placed-idle, placed-behind, settled-cases, drain-cases, held-cases, request-cases}
+use Rattle.model.proofs.Branches.{placed-idle, placed-behind, released-cases, settled-cases, drain-cases, held-cases, request-cases}
 use Rattle.model.proofs.Passing.{passed, front-or-new}
 use Rattle.model.proofs.Sound.{sound-parts}
 use Rattle.model.proofs.Keeping.{rises-weaken, numbers-requeued, numbers-more, rises-more}
@@ -34,20 +34,31 @@ unfolding drain
 drain-rising σ n top cs us [] h = tt
 drain-rising σ n top cs us (w ∷ ws) h = drain-cases (λ (q : Queues). Rising n (q .answers)) σ cs us w ws (λ _. tt) (λ _. placed-rising n us w cs _ (h .0) (drain-rising σ (w .number) top _ _ ws (h .1)))
 
-held-rising : (n : ℕ) (u : Uncommitted) (l : List Answer) → n < u .number → Rising (u .number) l → Rising n (heldBy u ++ l)
-held-rising n u l k h = held-cases (λ (a : List Answer). Rising n (a ++ l)) u (λ o _. (k, h)) (λ _. rising-low n (u .number) l (omega arith) h)
+held-rising : (n d : ℕ) (u : Uncommitted) (l : List Answer) → n < u .number → Rising (u .number) l → Rising n (heldWith d u ++ l)
+held-rising n d u l k h = held-cases (λ (a : List Answer). Rising n (a ++ l)) d u (λ o _. (k, h)) (λ _. rising-low n (u .number) l (omega arith) h)
 
 waits-rise : (n top : ℕ) (us : List Uncommitted) (ws : List Waiting) → Rises n top (numbers us ws) → Rises n top (numbers [] ws)
 waits-rise n top [] ws h = h
 waits-rise n top (u ∷ us) ws h = rises-weaken n (u .number) top (numbers [] ws) (omega (arith, h .0)) (waits-rise (u .number) top us ws (h .1))
 
--- those of the singles that settle and of the new front, then others
-settled-rising : (n top : ℕ) (us : List Uncommitted) (ws : List Waiting) (l : List Answer) → Rises n top (numbers us ws) → ((m : ℕ) → Rises m top (numbers [] ws) → Rising m l) → Rising n (settled us .answers ++ l)
-unfolding settled
-settled-rising n top [] ws l h t = t n h
-settled-rising n top (u ∷ us) ws l h t = settled-cases (λ (p : Place). Rising n (p .answers ++ l)) u us
-    (λ _. held-rising n u l (h .0) (t (u .number) (waits-rise (u .number) top us ws (h .1))))
-    (λ _. subst (Rising n) (sym (append-assoc (heldBy u) (settled us .answers) l)) (held-rising n u (settled us .answers ++ l) (h .0) (settled-rising (u .number) top us ws l (h .1) t)))
+-- those that are released, then others: l, above all that wait
+module _ (top : ℕ) (ws : List Waiting) (l : List Answer) (t : (m : ℕ) → Rises m top (numbers [] ws) → Rising m l) where
+  released-rising : (n : ℕ) (ahead us : List Uncommitted) → Rises n top (numbers us ws) → Rising n (released ahead us .answers ++ l)
+  unfolding released
+  released-rising n ahead [] h = t n h
+  released-rising n ahead (u ∷ us) h =
+      let k = released-rising (u .number) (ahead ++ (u ∷ [])) us (h .1) in
+      released-cases (λ (p : Place). Rising n (p .answers ++ l)) ahead u us
+      (rising-low n (u .number) (released (ahead ++ (u ∷ [])) us .answers ++ l) (omega (arith, h .0)) k)
+      (λ _. subst (Rising n) (sym (append-assoc (heldWith (nearest 0 ahead) u) (released (ahead ++ (u ∷ [])) us .answers) l)) (held-rising n (nearest 0 ahead) u (released (ahead ++ (u ∷ [])) us .answers ++ l) (h .0) k))
+
+  -- those of the singles that settle, of the new front and of the released ones, then others
+  settled-rising : (n : ℕ) (us : List Uncommitted) → Rises n top (numbers us ws) → Rising n (settled us .answers ++ l)
+  unfolding settled
+  settled-rising n [] h = t n h
+  settled-rising n (u ∷ us) h = settled-cases (λ (p : Place). Rising n (p .answers ++ l)) u us
+      (λ _. subst (Rising n) (sym (append-assoc (heldBy u) (released (u ∷ []) us .answers) l)) (held-rising n 0 u (released (u ∷ []) us .answers ++ l) (h .0) (released-rising (u .number) (u ∷ []) us (h .1))))
+      (λ _. subst (Rising n) (sym (append-assoc (heldBy u) (settled us .answers) l)) (held-rising n 0 u (settled us .answers ++ l) (h .0) (settled-rising (u .number) us (h .1))))
 
 module _ (σ : Scheme) (top : ℕ) (cs : Cells) (ws : List Waiting) where
   joined-rising : (n : ℕ) (f : Fragment) (us : List Uncommitted) → Rises 0 top (numbers us ws) → top < n → Rising 0 (joined σ n f cs us ws .answers)
@@ -61,7 +72,7 @@ module _ (σ : Scheme) (top : ℕ) (cs : Cells) (ws : List Waiting) where
   committed-rising : (us : List Uncommitted) → Rises 0 top (numbers us ws) → Rising 0 (committed σ cs us ws .answers)
   committed-rising [] h = tt
   committed-rising (u ∷ us) h =
-      settled-rising 0 top us ws (drain σ cs (settled us .uncommitted) ws .answers) (rises-weaken 0 (u .number) top (numbers us ws) (omega arith) (h .1)) (λ m r. drain-rising σ m top cs (settled us .uncommitted) ws r)
+      settled-rising top ws (drain σ cs (settled us .uncommitted) ws .answers) (λ m r. drain-rising σ m top cs (settled us .uncommitted) ws r) 0 us (rises-weaken 0 (u .number) top (numbers us ws) (omega arith) (h .1))
 
   aborted-rising : (us : List Uncommitted) → Rises 0 top (numbers us ws) → Rising 0 (aborted σ cs us ws .answers)
   aborted-rising [] h = tt

@@ -1,6 +1,6 @@
 -- Document 01, "Depot cases": P1 to P9, one table. Each case: the starting cells, the events, for each of them the returned number with
--- the answers, and the cells at the end. "Cells 5 and 10 unless said". Then those of them that show the blocking scheme (02, L5), and two of
--- what a failing operation found (02, L4).
+-- the answers, and the cells at the end. "Cells 5 and 10 unless said". Then those of them that show the blocking scheme (02, L5), two of
+-- what a failing operation found (02, L4), and two that show what a commit releases (02, L6).
 use Prim.Native.Nat.{ℕ, _-_}
 use mathlib.Core.List.{List, [], _∷_, _++_}
 use lib.ListN.{length, replicate}
@@ -149,5 +149,22 @@ found =
       cells = 5 ∷ 10 ∷ [];
       events = unfinished 1 1 (one (op 4 1 4)) ∷ finishing 1 1 (one (op 4 1 7)) ∷ [];
       prints = printed (ok (gave 1 0 (6 ∷ [])) ∷ ok (failing 1 1 6) ∷ []) (5 ∷ 10 ∷ []);
+    }
+    ∷ []
+
+-- L6: coordinators 1, 2, 2 and 1, so 2, 3 and 4 are held. Commit 1: 2 is the new front and is answered with dependence 0, 3 with dependence 2, though 4
+-- behind it has another coordinator; 4 stays held. Commit 2: 3 is not answered again, and 4 is held behind it. Commit 3: 4 is answered.
+-- Then coordinators 1, 2 and 2 with a single between: 4 is answered with dependence 2, and the single when 2 has committed.
+abbrev pub sooner : List Case
+sooner =
+    record {
+      cells = 5 ∷ 10 ∷ [];
+      events = finishing 1 1 (one (op 2 0 17)) ∷ finishing 2 2 (one (op 3 0 1)) ∷ finishing 3 2 (one (op 3 0 1)) ∷ finishing 4 1 (one (op 1 0 0)) ∷ commit 1 ∷ commit 2 ∷ commit 3 ∷ [];
+      prints = printed (ok (gave 1 0 (17 ∷ [])) ∷ quiet ∷ quiet ∷ quiet ∷ (0, gave 2 0 (18 ∷ []) ∷ gave 3 2 (19 ∷ []) ∷ []) ∷ quiet ∷ ok (gave 4 0 (19 ∷ [])) ∷ []) (19 ∷ 10 ∷ []);
+    }
+    ∷ record {
+      cells = 5 ∷ 10 ∷ [];
+      events = finishing 1 1 (one (op 2 0 17)) ∷ finishing 2 2 (one (op 3 0 1)) ∷ single 3 (one (op 3 0 1)) ∷ finishing 4 2 (one (op 3 0 1)) ∷ commit 1 ∷ commit 2 ∷ [];
+      prints = printed (ok (gave 1 0 (17 ∷ [])) ∷ quiet ∷ quiet ∷ quiet ∷ (0, gave 2 0 (18 ∷ []) ∷ gave 4 2 (20 ∷ []) ∷ []) ∷ ok (gave 3 0 (19 ∷ [])) ∷ []) (20 ∷ 10 ∷ []);
     }
     ∷ []

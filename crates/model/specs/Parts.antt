@@ -1,14 +1,16 @@
--- Soundness part by part, and the rows of the refusals that an accepted call has passed: what inner functions promise each other. The test of
--- soundness and these parts are proved to say the same (proofs/Sound), and that an accepted call has passed every row (proofs/Passing).
+-- Soundness part by part, the rows of the refusals that an accepted call has passed, and L6's release as one walk: what inner functions promise
+-- each other. The test of soundness and these parts are proved to say the same (proofs/Sound), and that an accepted call has passed every row
+-- (proofs/Passing), and that the walk releases what the step does (proofs/Releasing).
 use Prim.Native.Nat.{ℕ, _+_, _*_, _≤_}
 use mathlib.Core.Path.{_≡_}
 use mathlib.Core.Bool.{Bool, true, false, not, _&&_, _||_}
-use mathlib.Core.List.{List, [], _∷_}
+use mathlib.Core.List.{List, [], _∷_, _++_}
 use lib.Dec.{leb, ltb, eqb}
 use lib.ListN.{length}
 use Rattle.model.specs.Limits.{mostCells, mostFragments, depth, mostLive, leastRoom}
 use Rattle.model.specs.Operations.{multi}
 use Rattle.model.specs.Transactions.{finished, failed, holds, Uncommitted, Waiting, Engine, numbers, front}
+use Rattle.model.specs.Steps.{heldWith, sent, Place}
 use Rattle.model.specs.Refusals.{every, storable, behind, ready, fits, isState, isReply, sound, formedEvent, inside, Call, live, new, isFront, atFront}
 use Rattle.model.specs.Demand.{Rises}
 use Rattle.model.specs.declared.Undo.{Undo}
@@ -70,3 +72,16 @@ pub record Passed (e : Engine) (c : Call) : Type 0 where
   pub twelve : (not (eqb (c .event .kind) 1) && new (c .event .number) e) ≡ false
   pub thirteen : (eqb (c .event .kind) 2 && atFront (c .event .number) (λ u. not (finished (u .state))) e) ≡ false
   pub fourteen : (eqb (c .event .kind) 2 && atFront (c .event .number) (λ u. failed (u .state)) e) ≡ false
+
+-- `released` as one walk over those behind the front: k is the coordinator of all multis so far, near the last of them. Behind a multi with
+-- another coordinator nothing is released.
+unfoldable pub releasedFrom : ℕ → ℕ → List Uncommitted → Place
+releasedFrom k near [] = record { uncommitted = []; answers = []; settles = [] }
+releasedFrom k near (u ∷ us) =
+    elim (multi (u .first)) [
+      | false ↦ record { uncommitted = u ∷ releasedFrom k near us .uncommitted; answers = releasedFrom k near us .answers; settles = [] }
+      | true ↦ elim (eqb (u .first .coordinator) k) [
+        | false ↦ record { uncommitted = u ∷ us; answers = []; settles = [] }
+        | true ↦ record { uncommitted = sent u ∷ releasedFrom k (u .number) us .uncommitted; answers = heldWith near u ++ releasedFrom k (u .number) us .answers; settles = [] }
+      ]
+    ]

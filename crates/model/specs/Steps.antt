@@ -1,4 +1,4 @@
--- Document 01, "The steps": a fragment's run with undo entries, undoing, drain, arrival, commit and abort.
+-- Document 01, "The steps": a fragment's run with undo entries, undoing, drain, arrival, commit and abort; the commit as 02's L6 amends it.
 use Prim.Native.Nat.{ℕ, zero, suc, _+_}
 use mathlib.Core.Bool.{Bool, true, false, not, _&&_, _||_}
 use mathlib.Core.List.{List, [], _∷_, _++_, map}
@@ -137,23 +137,39 @@ abbrev pub arrived : Scheme → ℕ → Fragment → Cells → List Uncommitted 
 arrived σ n f cs [] ws = joined σ n f cs [] ws
 arrived σ n f cs (u ∷ us) ws = elim (eqb (u .number) n) [ false ↦ joined σ n f cs (u ∷ us) ws | true ↦ continued σ f cs u us ws ]
 
+-- the answer that u holds, with dependence d; one that was sent earlier is not repeated
+abbrev pub heldWith : ℕ → Uncommitted → List Answer
+heldWith d u = elim (u .reply) [ Held o ↦ answer (u .number) d o ∷ [] | Sent ↦ [] | NoReply ↦ [] ]
+
 -- "if its answer was held, it is sent now with dependence 0, and if it was sent earlier it is not repeated"
 abbrev pub heldBy : Uncommitted → List Answer
-heldBy u = elim (u .reply) [ Held o ↦ answer (u .number) 0 o ∷ [] | Sent ↦ [] | NoReply ↦ [] ]
+heldBy u = heldWith 0 u
 
 abbrev pub sent : Uncommitted → Uncommitted
 sent u = record { number = u .number; first = u .first; ran = u .ran; state = u .state; reply = Sent; undo = u .undo }
 
--- "Then singles settle and are answered from the front of the queue until a multi is first. That one is the new front"
+-- 02, L6: "After each commit and before the drain, held answers are looked at in queue order, and each multi for which the multis ahead of it and
+-- itself have one coordinator is answered with its dependence." That is the nearest multi ahead. Those behind it are not asked. Nothing settles.
+unfoldable pub released : List Uncommitted → List Uncommitted → Place
+released ahead [] = record { uncommitted = []; answers = []; settles = [] }
+released ahead (u ∷ us) =
+    let p = released (ahead ++ (u ∷ [])) us in
+    elim (multi (u .first) && oneCoordinator (u .first .coordinator) ahead) [
+      | false ↦ record { uncommitted = u ∷ p .uncommitted; answers = p .answers; settles = [] }
+      | true ↦ record { uncommitted = sent u ∷ p .uncommitted; answers = heldWith (nearest 0 ahead) u ++ p .answers; settles = [] }
+    ]
+
+-- "Then singles settle and are answered from the front of the queue until a multi is first. That one is the new front"; L6: "The front comes first, as
+-- before.", then what is released behind it.
 unfoldable pub settled : List Uncommitted → Place
 settled [] = record { uncommitted = []; answers = []; settles = [] }
 settled (u ∷ us) =
     elim (multi (u .first)) [
-      | true ↦ record { uncommitted = sent u ∷ us; answers = heldBy u; settles = [] }
+      | true ↦ record { uncommitted = sent u ∷ released (u ∷ []) us .uncommitted; answers = heldBy u ++ released (u ∷ []) us .answers; settles = [] }
       | false ↦ record { uncommitted = settled us .uncommitted; answers = heldBy u ++ settled us .answers; settles = u .number ∷ settled us .settles }
     ]
 
--- "Commit of the front: it settles. Then singles settle .. Then drain." Its entries go with it.
+-- "Commit of the front: it settles. Then singles settle .. Then drain.", with L6's release before the drain. Its entries go with it.
 abbrev pub committed : Scheme → Cells → List Uncommitted → List Waiting → Queues
 committed σ cs [] ws = record { cells = cs; uncommitted = []; waiting = ws; answers = []; settles = [] }
 committed σ cs (u ∷ us) ws = sending (settled us .answers) (u .number ∷ settled us .settles) (drain σ cs (settled us .uncommitted) ws)

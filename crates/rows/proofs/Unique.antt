@@ -27,6 +27,10 @@ use Rattle.rows.proofs.held_row.Kinds as held-row-kinds
 use Rattle.rows.proofs.held_row.Reads as held-row
 use Rattle.rows.proofs.least.Kinds as least-kinds
 use Rattle.rows.proofs.least.Reads as least
+use Rattle.rows.proofs.same_coordinator.Kinds as same-coordinator-kinds
+use Rattle.rows.proofs.same_coordinator.Reads as same-coordinator
+use Rattle.rows.proofs.nearer.Kinds as nearer-kinds
+use Rattle.rows.proofs.nearer.Reads as nearer
 
 pub answer-row-unique : Unique answer-row-kinds.ps answer-row-kinds.r answer-row.Learnt
 answer-row-unique κs a z z′ ws ws′ p q = (cc, refl)
@@ -66,3 +70,9 @@ held-row-unique κs a z z′ ws ws′ p q = (cc, refl)
 
 pub least-unique : Unique least-kinds.ps least-kinds.r least.Learnt
 least-unique κs a z z′ ws ws′ p q = (cc, refl)
+
+pub same-coordinator-unique : Unique same-coordinator-kinds.ps same-coordinator-kinds.r same-coordinator.Learnt
+same-coordinator-unique κs a z z′ ws ws′ p q = (cc, refl)
+
+pub nearer-unique : Unique nearer-kinds.ps nearer-kinds.r nearer.Learnt
+nearer-unique κs a z z′ ws ws′ p q = (cc, refl)

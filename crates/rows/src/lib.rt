@@ -112,7 +112,7 @@ pub fn is_multi_row(live: &[u32], at: u32) -> bool
 }
 
 // A row of the live row that is a single's, or has coordinator k.
-pub(crate) fn same_coordinator(live: &[u32], at: usize, k: u32) -> bool
+pub(crate) fn same_at(live: &[u32], at: usize, k: u32) -> bool
     requires { ⌜ at ≤ 137438953472 ⌝ }
     ensures { λ r. ⌜ r ≡ sameRow (now (live .entry)) at k ⌝ }
 {
@@ -124,13 +124,20 @@ pub(crate) fn same_coordinator(live: &[u32], at: usize, k: u32) -> bool
     }
 }
 
+// The same at a number of a place.
+pub fn same_coordinator(live: &[u32], at: u32, k: u32) -> bool
+    ensures { λ r. ⌜ r ≡ sameRow (now (live .entry)) at k ⌝ }
+{
+    same_at(live, at as usize, k)
+}
+
 // "all uncommitted multis .. have one coordinator (singles do not count)": k, over n rows of the live row from place b on.
 pub fn one_coordinator(live: &[u32], b: u32, n: u32, k: u32) -> bool
     ensures { λ r. ⌜ r ≡ oneRows (now (live .entry)) b n k ⌝ }
 {
     let mut i: u32 = 0;
     while i < n {
-        if !same_coordinator(live, b as usize + record::LIVE_WORDS * i as usize, k) {
+        if !same_at(live, b as usize + record::LIVE_WORDS * i as usize, k) {
             return false;
         }
         i = i + 1;
@@ -139,7 +146,7 @@ pub fn one_coordinator(live: &[u32], b: u32, n: u32, k: u32) -> bool
 }
 
 // The number of a row that is a multi's, d for a single's.
-pub(crate) fn nearer(live: &[u32], at: usize, d: u32) -> u32
+pub(crate) fn nearer_at(live: &[u32], at: usize, d: u32) -> u32
     requires { ⌜ at ≤ 137438953472 ⌝ }
     ensures { λ r. ⌜ r ≡ nearRow (now (live .entry)) at d ⌝ }
 {
@@ -150,6 +157,13 @@ pub(crate) fn nearer(live: &[u32], at: usize, d: u32) -> u32
     }
 }
 
+// The same at a number of a place.
+pub fn nearer(live: &[u32], at: u32, d: u32) -> u32
+    ensures { λ r. ⌜ r ≡ nearRow (now (live .entry)) at d ⌝ }
+{
+    nearer_at(live, at as usize, d)
+}
+
 // "the nearest multi ahead of it": the last multi's number of n rows, 0 where there is none.
 pub fn nearest_multi(live: &[u32], b: u32, n: u32) -> u32
     ensures { λ r. ⌜ r ≡ nearRows 0 (now (live .entry)) b n ⌝ }
@@ -157,7 +171,7 @@ pub fn nearest_multi(live: &[u32], b: u32, n: u32) -> u32
     let mut d: u32 = 0;
     let mut i: u32 = 0;
     while i < n {
-        d = nearer(live, b as usize + record::LIVE_WORDS * i as usize, d);
+        d = nearer_at(live, b as usize + record::LIVE_WORDS * i as usize, d);
         i = i + 1;
     }
     d

@@ -177,12 +177,29 @@ pub enum Fault {
     FoundTheAmount,
     /// Tells the numbers of the operations before it too.
     FoundAmongOthers,
+    /// After a commit: releases nothing.
+    ReleaseMissing,
+    /// Answers what it releases with dependence 0.
+    ReleaseWithoutDependence,
+    /// Answers it with a dependence on the front and not on the nearest multi ahead.
+    ReleaseDependsOnTheFront,
+    /// Asks the multis behind a held one too.
+    ReleaseAsksThoseBehind,
+    /// Asks the front alone, and not the multis between.
+    ReleaseAsksTheFrontAlone,
+    /// Leaves what it releases marked as held, and so sends it again.
+    ReleaseStaysHeld,
+    /// Releases after the drain.
+    ReleaseAfterTheDrain,
+    /// Releases after a fragment too. Where a run is from a fresh start nothing is held then that could be released:
+    /// the odd records of the soak show it.
+    ReleaseAfterAFragment,
     /// No trace lends less than the room: the depot program's calls show it.
     LeastRoom1023,
 }
 
 impl Fault {
-    pub const ALL: [Fault; 27] = [
+    pub const ALL: [Fault; 35] = [
         Fault::UndoOldestFirst,
         Fault::SpeculateBehindUnfinishedFront,
         Fault::RequeueReversed,
@@ -209,19 +226,34 @@ impl Fault {
         Fault::FoundAfterUndo,
         Fault::FoundTheAmount,
         Fault::FoundAmongOthers,
+        Fault::ReleaseMissing,
+        Fault::ReleaseWithoutDependence,
+        Fault::ReleaseDependsOnTheFront,
+        Fault::ReleaseAsksThoseBehind,
+        Fault::ReleaseAsksTheFrontAlone,
+        Fault::ReleaseStaysHeld,
+        Fault::ReleaseAfterTheDrain,
+        Fault::ReleaseAfterAFragment,
         Fault::LeastRoom1023,
     ];
 
     /// Whether runs by this scheme alone can show it. What needs a speculated one is no error by blocking.
     pub fn shows_by(self, scheme: Scheme) -> bool {
         match self {
-            Fault::None | Fault::LeastRoom1023 => false,
+            Fault::None | Fault::ReleaseAfterAFragment | Fault::LeastRoom1023 => false,
             Fault::SpeculateBehindUnfinishedFront
             | Fault::RequeueReversed
             | Fault::SingleAnsweredEarly
             | Fault::SinglesCountAsForeign
             | Fault::AnswerRepeated
-            | Fault::Depth17 => scheme == Scheme::Speculation,
+            | Fault::Depth17
+            | Fault::ReleaseMissing
+            | Fault::ReleaseWithoutDependence
+            | Fault::ReleaseDependsOnTheFront
+            | Fault::ReleaseAsksThoseBehind
+            | Fault::ReleaseAsksTheFrontAlone
+            | Fault::ReleaseStaysHeld
+            | Fault::ReleaseAfterTheDrain => scheme == Scheme::Speculation,
             Fault::BlockingNeverBlocks
             | Fault::BlockingSpeculatesOnce
             | Fault::BlockingWhenIdle
@@ -301,7 +333,15 @@ impl Engine {
                 COMMIT => self.settle(&mut answers),
                 _ => self.abort(cells),
             }
+            let late = self.fault == Fault::ReleaseAfterTheDrain;
+            let releases = self.releases_after(event.kind);
+            if releases && !late {
+                self.release(&mut answers);
+            }
             self.drain(scheme, cells, &mut answers);
+            if releases && late {
+                self.release(&mut answers);
+            }
         }
         if self.fault == Fault::DependenceBeforeNumber {
             answers.iter_mut().for_each(|answer| swap(&mut answer.number, &mut answer.dependence));
@@ -420,6 +460,43 @@ impl Engine {
         }
     }
 
+    /// After each commit and no other event.
+    fn releases_after(&self, kind: u32) -> bool {
+        match self.fault {
+            Fault::ReleaseMissing => false,
+            Fault::ReleaseAfterAFragment => kind == COMMIT || kind == FRAGMENT,
+            _ => kind == COMMIT,
+        }
+    }
+
+    /// Looks at the held answers behind the front in queue order: a multi is answered where the multis ahead of it and
+    /// itself have one coordinator, whoever is behind it.
+    fn release(&mut self, answers: &mut Vec<Answer>) {
+        for at in 1..self.record.uncommitted.len() {
+            let one = &self.record.uncommitted[at];
+            let first = one.first;
+            let Some(dependence) = self.released(at, &first) else { continue };
+            let Some(outcome) = one.held.clone() else { continue };
+            answers.push(Answer { number: first.number, dependence, outcome });
+            if self.fault != Fault::ReleaseStaysHeld {
+                self.record.uncommitted[at].held = None;
+            }
+        }
+    }
+
+    /// The dependence with which the one at a place is released, or nothing.
+    fn released(&self, at: usize, first: &Fragment) -> Option<u32> {
+        let front = self.record.uncommitted[0].first;
+        let of_front = first.is_multi() && first.coordinator == front.coordinator;
+        match self.fault {
+            Fault::ReleaseAsksTheFrontAlone => of_front.then(|| self.nearest(at)).flatten(),
+            Fault::ReleaseAsksThoseBehind if !self.one_coordinator(self.record.uncommitted.len(), first) => None,
+            Fault::ReleaseWithoutDependence => self.dependence(at, first).map(|_| 0),
+            Fault::ReleaseDependsOnTheFront => self.dependence(at, first).map(|_| front.number),
+            _ => self.dependence(at, first),
+        }
+    }
+
     fn abort(&mut self, cells: &mut [u32]) {
         for one in self.record.uncommitted.iter_mut().rev() {
             undo(one, cells, self.fault);
@@ -441,7 +518,8 @@ impl Engine {
         while self.may_run_next(scheme) {
             let Some(first) = self.record.waiting.pop_front() else { break };
             let alone = self.record.uncommitted.is_empty();
-            let dependence = if alone { Some(0) } else { self.dependence(&first) };
+            let ahead = self.record.uncommitted.len();
+            let dependence = if alone { Some(0) } else { self.dependence(ahead, &first) };
             let mut one = Uncommitted { first, fragments_run: 0, state: State::Running, held: None, undo: Vec::new() };
             let outcome = run(&mut one, &first, cells, self.fault);
             if let Some(dependence) = dependence {
@@ -480,19 +558,25 @@ impl Engine {
             }
     }
 
-    /// What the answer of one that joins the uncommitted ones depends on, or nothing if it is held.
-    fn dependence(&self, joining: &Fragment) -> Option<u32> {
-        let ahead = self.record.uncommitted.iter().map(|one| &one.first);
-        if !joining.is_multi() {
+    /// What the answer of one with so many uncommitted ones ahead of it depends on, or nothing if it is held.
+    fn dependence(&self, ahead: usize, one: &Fragment) -> Option<u32> {
+        if !one.is_multi() {
             return (self.fault == Fault::SingleAnsweredEarly).then_some(0);
         }
+        self.nearest(ahead).filter(|_| self.one_coordinator(ahead, one))
+    }
+
+    /// Whether the multis among the first so many uncommitted ones have this one's coordinator. Singles do not count.
+    fn one_coordinator(&self, many: usize, one: &Fragment) -> bool {
         let singles_count = self.fault == Fault::SinglesCountAsForeign;
-        let one_coordinator = ahead
-            .clone()
-            .filter(|first| first.is_multi() || singles_count)
-            .all(|first| first.coordinator == joining.coordinator);
-        let nearest = ahead.rev().find(|first| first.is_multi())?;
-        one_coordinator.then_some(nearest.number)
+        let asked = self.record.uncommitted.iter().take(many).map(|other| &other.first);
+        asked.filter(|first| first.is_multi() || singles_count).all(|first| first.coordinator == one.coordinator)
+    }
+
+    /// The last multi among the first so many uncommitted ones.
+    fn nearest(&self, many: usize) -> Option<u32> {
+        let ahead = self.record.uncommitted.iter().take(many).map(|other| &other.first);
+        ahead.rev().find(|first| first.is_multi()).map(|first| first.number)
     }
 
     fn depth(&self) -> usize {

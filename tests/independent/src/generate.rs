@@ -89,7 +89,7 @@ struct Mood {
 
 // In the order of WISHES: single, closed, open, more, last, commit, abort, refused, broken.
 #[rustfmt::skip]
-const MOODS: [Mood; 6] = [
+const MOODS: [Mood; 7] = [
     // A bit of everything.
     Mood { build: [30, 15, 6, 10, 10, 10, 5, 8, 6], resolve: [10, 10, 5, 10, 20, 25, 10, 5, 5], most_building: 40 },
     // Deep speculation.
@@ -102,6 +102,8 @@ const MOODS: [Mood; 6] = [
     Mood { build: [15, 55, 3, 1, 10, 1, 1, 2, 1], resolve: [3, 3, 1, 2, 10, 10, 60, 3, 1], most_building: 40 },
     // Mostly refused.
     Mood { build: [15, 10, 10, 10, 5, 5, 5, 30, 20], resolve: [5, 5, 5, 5, 10, 10, 10, 30, 20], most_building: 40 },
+    // Multis that commit one after the other.
+    Mood { build: [15, 60, 1, 1, 10, 5, 1, 2, 1], resolve: [3, 10, 1, 2, 20, 80, 3, 3, 1], most_building: 30 },
 ];
 
 /// Seeds that follow each other take turns, so that a short run has every mood and a bad trace.
@@ -432,6 +434,8 @@ pub struct Reach {
     pub held: u64,
     pub dependent: u64,
     pub failed: u64,
+    /// Commits by how many held answers they released behind the front: one, two, more.
+    pub released: [u64; 3],
     /// Accepted aborts by how many they put back.
     pub requeued: [u64; DEPTH],
     pub depth_16: u64,
@@ -475,6 +479,11 @@ impl Reach {
         if aborted {
             self.requeued[before.uncommitted.len() - 1] += 1;
         }
+        // Only a released one is answered with a dependence although it had run before.
+        let released = answers.iter().filter(|answer| answer.dependence != 0 && !ran_now(answer.number)).count();
+        if let Some(at) = released.min(3).checked_sub(1) {
+            self.released[at] += 1;
+        }
         let was_less = |was: usize, now: usize, most: usize| u64::from(was < most && now == most);
         self.depth_16 += was_less(before.uncommitted.len(), count, DEPTH);
         self.live_64 += was_less(before.live().count(), after.live().count(), MOST_LIVE);
@@ -492,12 +501,16 @@ impl Reach {
     pub fn missing(&self) -> Vec<String> {
         let refusals = (4..=14).map(|number| (format!("refusal {number}"), self.returned[number]));
         let of_scheme = match self.scheme {
-            Scheme::Speculation => ("depth 16", self.depth_16),
-            Scheme::Blocking => ("a drain that blocking stops", self.stopped_by_blocking),
+            Scheme::Speculation => vec![
+                ("depth 16", self.depth_16),
+                ("a commit that releases one answer", self.released[0]),
+                ("a commit that releases two", self.released[1]),
+                ("a commit that releases more", self.released[2]),
+            ],
+            Scheme::Blocking => vec![("a drain that blocking stops", self.stopped_by_blocking)],
         };
-        let others =
-            [of_scheme, ("64 live", self.live_64), ("a failed answer", self.failed), ("a bad trace", self.bad)];
-        let others = others.map(|(name, count)| (name.to_string(), count));
+        let others = [("64 live", self.live_64), ("a failed answer", self.failed), ("a bad trace", self.bad)];
+        let others = of_scheme.into_iter().chain(others).map(|(name, count)| (name.to_string(), count));
         refusals.chain(others).filter(|(_, count)| *count == 0).map(|(name, _)| name).collect()
     }
 }
@@ -511,7 +524,10 @@ impl fmt::Display for Reach {
             write!(f, " {number}:{count}")?;
         }
         match scheme {
-            Scheme::Speculation => write!(f, ", depth 16 {depth_16}, 64 live {live_64}"),
+            Scheme::Speculation => {
+                let [one, two, more] = self.released;
+                write!(f, ", depth 16 {depth_16}, 64 live {live_64}, released 1:{one} 2:{two} more:{more}")
+            }
             Scheme::Blocking => write!(f, ", drains that blocking stopped {stopped_by_blocking}, 64 live {live_64}"),
         }
     }

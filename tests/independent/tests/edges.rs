@@ -27,7 +27,7 @@ fn the_files_are_those_of_their_sources() {
 #[test]
 fn what_was_worked_by_hand_is_what_this_engine_prints() {
     let all = edges::all();
-    assert_eq!(all.len(), 9);
+    assert_eq!(all.len(), 10);
     for (edges, scheme) in all.iter().flat_map(|edges| Scheme::ALL.map(|scheme| (edges, scheme))) {
         assert!((1..=256).contains(&edges.events.len()), "{}", edges.name);
         assert_eq!(replay(scheme, &edges.bytes()), edges.prints(scheme), "{} by {}", edges.name, scheme.word());
@@ -65,5 +65,23 @@ fn what_was_not_found_is_noticed() {
     ];
     for (fault, scheme) in faults.into_iter().flat_map(|fault| Scheme::ALL.map(|scheme| (fault, scheme))) {
         assert!(notices(fault, scheme).contains(&"edges-codes".to_string()), "{fault:?} by {}", scheme.word());
+    }
+}
+
+/// What a commit releases with another dependence, too late, twice, too little or too much.
+#[test]
+fn wrong_releases_are_noticed() {
+    let faults = [
+        Fault::ReleaseMissing,
+        Fault::ReleaseWithoutDependence,
+        Fault::ReleaseDependsOnTheFront,
+        Fault::ReleaseAsksThoseBehind,
+        Fault::ReleaseAsksTheFrontAlone,
+        Fault::ReleaseStaysHeld,
+        Fault::ReleaseAfterTheDrain,
+    ];
+    for fault in faults {
+        assert!(notices(fault, Scheme::Speculation).contains(&"release".to_string()), "{fault:?}");
+        assert!(notices(fault, Scheme::Blocking).is_empty(), "{fault:?}");
     }
 }

@@ -155,3 +155,12 @@ fn what_was_not_found_is_seen() {
         assert!(seen > 20, "{fault:?}: {seen}");
     }
 }
+
+/// And a released answer that names no dependence, or another one than the nearest multi ahead.
+#[test]
+fn wrong_dependences_of_released_answers_are_seen() {
+    for fault in [Fault::ReleaseWithoutDependence, Fault::ReleaseDependsOnTheFront] {
+        let seen = traces().filter(|(seed, trace)| parted(*seed, trace, fault).is_err()).count();
+        assert!(seen > 5, "{fault:?}: {seen}");
+    }
+}

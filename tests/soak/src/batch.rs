@@ -6,10 +6,10 @@ use crate::damage::Damage;
 use crate::hostile;
 use crate::life::Life;
 use crate::subject::Subject;
-use crate::tally::Tally;
+use crate::tally::{Met, Tally};
 use crate::view::*;
-use independent::engine::{DEPTH, ROOM};
-use independent::event::{EVENT_WORDS, TOP};
+use independent::engine::{ANSWER_WORDS, DEPTH, ROOM};
+use independent::event::{COMMIT, EVENT_WORDS, TOP};
 use independent::generate::Random;
 use independent::layout::{Words, WORDS};
 use independent::Scheme;
@@ -150,10 +150,14 @@ impl<S: Subject> Batch<'_, S> {
     fn call(&mut self, lent: Lent) -> Result<Done, Difference> {
         let (scheme, old_answers) = (self.life.scheme(&mut self.random), self.random.word());
         let clean = self.bench.twin.called;
-        let taken_over = clean && takes_over(scheme, View(self.bench.areas().record()));
+        let view = View(self.bench.areas().record());
+        let taken_over = clean && takes_over(scheme, view);
+        let commits = clean && self.bench.areas().event(lent.event).first() == Some(&COMMIT);
+        let ran: Vec<u32> = (0..view.uncommitted()).filter(|_| commits).map(|row| view.stored(row, NUMBER)).collect();
         self.done += 1;
         let done = self.bench.call(scheme, lent, old_answers)?;
-        self.tally.note(scheme, taken_over, &done);
+        let released = if done.number == 0 { released(self.bench.areas(), done.answers, &ran) } else { 0 };
+        self.tally.note(scheme, Met { taken_over, released }, &done);
         Ok(done)
     }
 
@@ -251,6 +255,12 @@ impl<S: Subject> Batch<'_, S> {
             Some(left) => self.until_good = Some(left - 1),
         }
     }
+}
+
+/// How many of a commit's answers have a dependence although they ran before: these were held and are released.
+fn released(areas: &Arena, answers: u32, ran: &[u32]) -> usize {
+    let answers = areas.room(ANSWER_WORDS * answers as usize).chunks_exact(ANSWER_WORDS);
+    answers.filter(|answer| answer[1] != 0 && ran.contains(&answer[0])).count()
 }
 
 /// Whether a record that calls made shows that the other scheme made it: speculated ones for blocking, and for

@@ -30,6 +30,18 @@ pub struct OfScheme {
     pub returned: [u64; 15],
     /// Accepted ones on a record that shows that the other scheme made it.
     pub taken_over: u64,
+    /// Commits by how many held answers they released behind the front: one, two, more. In lives that nothing but calls
+    /// made; by blocking, of what speculation left.
+    pub released: [u64; 3],
+}
+
+/// What is known of a call beside what it gave.
+#[derive(Clone, Copy, Default)]
+pub struct Met {
+    /// The record shows that the other scheme made it.
+    pub taken_over: bool,
+    /// Answers that it released.
+    pub released: usize,
 }
 
 #[derive(Clone)]
@@ -68,12 +80,15 @@ impl Tally {
         }
     }
 
-    pub fn note(&mut self, scheme: Scheme, taken_over: bool, done: &Done) {
+    pub fn note(&mut self, scheme: Scheme, met: Met, done: &Done) {
         let &Done { number, answers, pair } = done;
         self.calls += 1;
         let by = &mut self.by[scheme as usize];
         by.returned[number as usize] += 1;
-        by.taken_over += u64::from(taken_over && number == 0);
+        by.taken_over += u64::from(met.taken_over && number == 0);
+        if let Some(at) = met.released.min(3).checked_sub(1) {
+            by.released[at] += 1;
+        }
         self.answers += u64::from(answers);
         self.most_answers = self.most_answers.max(answers);
         if let Some(pair) = pair {
@@ -95,7 +110,11 @@ impl Tally {
         let by_scheme = Scheme::ALL.into_iter().zip(&self.by).flat_map(|(scheme, of)| {
             let by = scheme.word();
             let returned = (0..15).map(move |number| (format!("number {number} by {by}"), of.returned[number]));
-            returned.chain([(format!("a changeover to {by}"), of.taken_over)])
+            let released = [1, 2, 3].map(|many: usize| {
+                let or_more = if many == 3 { " or more" } else { "" };
+                (format!("a commit by {by} that releases {many}{or_more}"), of.released[many - 1])
+            });
+            returned.chain([(format!("a changeover to {by}"), of.taken_over)]).chain(released)
         });
         let corners = [
             ("16 uncommitted".to_string(), self.uncommitted[DEPTH]),
@@ -124,14 +143,19 @@ impl fmt::Display for Tally {
         let Tally { calls, starts, lives, answers, most_answers, went_on, .. } = self;
         writeln!(f, "calls {calls} and {starts} starts, {lives} lives")?;
         writeln!(f, "answers sent {answers}, at most {most_answers} in a call")?;
-        for (scheme, OfScheme { returned, taken_over }) in Scheme::ALL.iter().zip(&self.by) {
+        for (scheme, OfScheme { returned, taken_over, released }) in Scheme::ALL.iter().zip(&self.by) {
             let calls: u64 = returned.iter().sum();
             write!(f, "by {} {calls} calls, returned", scheme.word())?;
             for (number, count) in returned.iter().enumerate() {
                 write!(f, " {number}:{count}")?;
             }
             let share = 100.0 * returned[0] as f64 / calls.max(1) as f64;
-            writeln!(f, "; accepted {share:.1} %, {taken_over} of them on a record that the other scheme left")?;
+            let [one, two, more] = released;
+            writeln!(
+                f,
+                "; accepted {share:.1} %, {taken_over} of them on a record that the other scheme left; commits that \
+                 released one {one}, two {two}, more {more}"
+            )?;
         }
         let OfPairs { calls, singles, nothing_live } = self.pairs;
         writeln!(

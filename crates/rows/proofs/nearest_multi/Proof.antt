@@ -8,7 +8,7 @@ use Rattle.rows.proofs.nearest_multi.Statement.{statement}
 use Rattle.rows.proofs.nearest_multi.Tie as tie
 use Rattle.rows.proofs.nearest_multi.Reads as reads
 use Rattle.rows.proofs.nearest_multi.Lts as lts
-use Rattle.rows.proofs.nearer.Reads as nearer-reads
+use Rattle.rows.proofs.nearer_at.Reads as nearer-at-reads
 use Rattle.record.specs.Widths.{liveWidth}
 
 abbrev Inv-loop : tie.InvT-loop
@@ -22,17 +22,17 @@ loop-holds c = let a = c .before .args in
     let s = rows-start (a .b) (a .n) in
     (search needs, λ j. nearRows 0 (a .live .now) (s .0 j) (s .1 j))
 
-cast-nearer : tie.Need-cast-nearer Inv-loop μ-loop
-cast-nearer c = search needs
+cast-nearer-at : tie.Need-cast-nearer-at Inv-loop μ-loop
+cast-nearer-at c = search needs
 
-mul-nearer : tie.Need-mul-nearer Inv-loop μ-loop
-mul-nearer c = search needs
+mul-nearer-at : tie.Need-mul-nearer-at Inv-loop μ-loop
+mul-nearer-at c = search needs
 
-add-nearer : tie.Need-add-nearer Inv-loop μ-loop
-add-nearer c = search needs
+add-nearer-at : tie.Need-add-nearer-at Inv-loop μ-loop
+add-nearer-at c = search needs
 
-nearer-requires : tie.Need-nearer-requires Inv-loop μ-loop
-nearer-requires c κs = search needs
+nearer-at-requires : tie.Need-nearer-at-requires Inv-loop μ-loop
+nearer-at-requires c κs = search needs
 
 add-i : tie.Need-add-i Inv-loop μ-loop
 add-i c = search needs
@@ -43,7 +43,7 @@ loop-less c = search needs
 loop-again : tie.Need-loop-again Inv-loop μ-loop
 loop-again c = let a = c .before .before .before .before .args in
     let l = c .before .before .loop in
-    (omega arith, near-on (a .live .now) (a .b) (a .n) (l .i) (l .d) _ (l .inv .1) (c .before .loop-test .taken) _ (c .nearer .ensures))
+    (omega arith, near-on (a .live .now) (a .b) (a .n) (l .i) (l .d) _ (l .inv .1) (c .before .loop-test .taken) _ (c .nearer-at .ensures))
 
 returns : tie.Need-returns Inv-loop μ-loop
 returns c = let a = c .before .before .before .args in
@@ -57,10 +57,10 @@ nearest-multi-spec =
     Inv-loop
     μ-loop
     loop-holds
-    cast-nearer
-    mul-nearer
-    add-nearer
-    nearer-requires
+    cast-nearer-at
+    mul-nearer-at
+    add-nearer-at
+    nearer-at-requires
     add-i
     loop-less
     loop-again

@@ -9,7 +9,7 @@ use Rattle.rows.proofs.one_coordinator.Statement.{statement}
 use Rattle.rows.proofs.one_coordinator.Tie as tie
 use Rattle.rows.proofs.one_coordinator.Reads as reads
 use Rattle.rows.proofs.one_coordinator.Lts as lts
-use Rattle.rows.proofs.same_coordinator.Reads as same-coordinator-reads
+use Rattle.rows.proofs.same_at.Reads as same-at-reads
 use Rattle.record.specs.Widths.{liveWidth}
 
 abbrev Inv-loop : tie.InvT-loop
@@ -23,22 +23,22 @@ loop-holds c = let a = c .before .args in
     let s = rows-start (a .b) (a .n) in
     (search needs, λ j. oneRows (a .live .now) (s .0 j) (s .1 j) (a .k))
 
-cast-same-coordinator : tie.Need-cast-same-coordinator Inv-loop μ-loop
-cast-same-coordinator c = search needs
+cast-same-at : tie.Need-cast-same-at Inv-loop μ-loop
+cast-same-at c = search needs
 
-mul-same-coordinator : tie.Need-mul-same-coordinator Inv-loop μ-loop
-mul-same-coordinator c = search needs
+mul-same-at : tie.Need-mul-same-at Inv-loop μ-loop
+mul-same-at c = search needs
 
-add-same-coordinator : tie.Need-add-same-coordinator Inv-loop μ-loop
-add-same-coordinator c = search needs
+add-same-at : tie.Need-add-same-at Inv-loop μ-loop
+add-same-at c = search needs
 
-same-coordinator-requires : tie.Need-same-coordinator-requires Inv-loop μ-loop
-same-coordinator-requires c κs = search needs
+same-at-requires : tie.Need-same-at-requires Inv-loop μ-loop
+same-at-requires c κs = search needs
 
 returns : tie.Need-returns Inv-loop μ-loop
 returns c = let a = c .before .before .before .before .before .args in
     let l = c .before .before .before .loop in
-    one-stops (a .live .now) (a .b) (a .n) (a .k) (l .i) _ (l .inv .1) (c .before .before .loop-test .taken) (sym (c .before .same-coordinator .ensures) ∙ not-true (c .before .same-coordinator .result) (c .if1 .taken))
+    one-stops (a .live .now) (a .b) (a .n) (a .k) (l .i) _ (l .inv .1) (c .before .before .loop-test .taken) (sym (c .before .same-at .ensures) ∙ not-true (c .before .same-at .result) (c .if1 .taken))
 
 add-i : tie.Need-add-i Inv-loop μ-loop
 add-i c = search needs
@@ -49,7 +49,7 @@ loop-less c = search needs
 loop-again : tie.Need-loop-again Inv-loop μ-loop
 loop-again c = let a = c .before .before .before .before .before .args in
     let l = c .before .before .before .loop in
-    (omega arith, one-on (a .live .now) (a .b) (a .n) (a .k) (l .i) _ (l .inv .1) (c .before .before .loop-test .taken) (sym (c .before .same-coordinator .ensures) ∙ not-false (c .before .same-coordinator .result) (c .if1 .left)))
+    (omega arith, one-on (a .live .now) (a .b) (a .n) (a .k) (l .i) _ (l .inv .1) (c .before .before .loop-test .taken) (sym (c .before .same-at .ensures) ∙ not-false (c .before .same-at .result) (c .if1 .left)))
 
 returns-2 : tie.Need-returns-2 Inv-loop μ-loop
 returns-2 c = let a = c .before .before .before .args in
@@ -63,10 +63,10 @@ one-coordinator-spec =
     Inv-loop
     μ-loop
     loop-holds
-    cast-same-coordinator
-    mul-same-coordinator
-    add-same-coordinator
-    same-coordinator-requires
+    cast-same-at
+    mul-same-at
+    add-same-at
+    same-at-requires
     returns
     add-i
     loop-less
