@@ -30,24 +30,10 @@ use Rattle.record.proofs.Back.{known-of, length-row, length-rows, rows-append, 
 use Rattle.refusals.specs.Rest.{callOf, frontIs, behindFirst}
 use Rattle.engine.specs.declared.course.Course.{Course}
 use Rattle.engine.specs.Work.{waitingMore, Work, Left, Small, Fair, Drained, Committed, Aborted, Continued}
-use Rattle.engine.specs.Ready.{Ready}
+use Rattle.engine.specs.Ready.{Ready, Begun}
 use Rattle.model.specs.Parts.{All, Sound}
 use Rattle.record.specs.Fitting.{Eight}
 use Rattle.record.specs.Widths.{liveWidth, liveLength}
-
--- the rows hold lists whose drain, with the answers sent so far, is q
-pub record Begun (σ : Scheme) (live runs undo room : List ℕ) (cells : Cells) (c : Course) (room₀ : List ℕ) (q : Queues) : Type 0 where
-  pub ct : ℕ
-  pub top : ℕ
-  pub gone : List Waiting
-  pub us : List Uncommitted
-  pub ws : List Waiting
-  pub sent : List Answer
-  pub names : List ℕ
-  pub work : Work live runs undo room c gone us ws sent room₀
-  pub sound : Sound ct top us ws
-  pub small : Small c
-  pub rest : sending sent names (Steps.drain σ cells us ws) ≡ q
 
 pub drained-left : (σ : Scheme) (live runs undo room runs′ undo′ room′ : List ℕ) (cells cells′ : Cells) (c c′ : Course) (room₀ : List ℕ) (q : Queues) → Begun σ live runs undo room cells c room₀ q
     → Drained σ live runs undo room cells c runs′ undo′ room′ cells′ c′ → Left live runs′ undo′ room′ c′ cells′ [] room₀ q

@@ -4,14 +4,16 @@ use mathlib.Core.Path.{_≡_}
 use mathlib.Core.List.{List, []}
 use lib.ListN.{length}
 use Rattle.model.specs.Operations.{Cells}
-use Rattle.model.specs.Transactions.{Engine}
+use Rattle.model.specs.Transactions.{Engine, Uncommitted, Waiting, Answer}
+use Rattle.model.specs.Steps.{Queues, sending}
+use Rattle.model.specs.Steps as Steps
 use Rattle.model.specs.Refusals.{request, taken}
 use Rattle.model.specs.declared.Event.{Event}
 use Rattle.model.specs.declared.Scheme.{Scheme}
 use Rattle.refusals.specs.Rest.{callOf}
-use Rattle.engine.specs.Work.{Work, Left}
+use Rattle.engine.specs.Work.{Small, Work, Left}
 use Rattle.engine.specs.declared.course.Course.{Course}
-use Rattle.model.specs.Parts.{Passed}
+use Rattle.model.specs.Parts.{Passed, Sound}
 
 pub record Ready (σ : Scheme) (live runs undo room : List ℕ) (cells : Cells) (c : Course) (v : Event) (e : Engine) : Type 0 where
   pub work : Work live runs undo room c [] (e .uncommitted) (e .waiting) [] room
@@ -22,7 +24,26 @@ pub record Ready (σ : Scheme) (live runs undo room : List ℕ) (cells : Cells) 
 abbrev pub Accepts : Scheme → List ℕ → List ℕ → List ℕ → List ℕ → Cells → Course → Event → Type 0
 Accepts σ live runs undo room cells c v = (e : Engine) × Ready σ live runs undo room cells c v e
 
--- whichever was, the rows, the room and the cells hold what its steps leave
+-- the rows hold lists whose drain, with the answers sent so far, is q
+pub record Begun (σ : Scheme) (live runs undo room : List ℕ) (cells : Cells) (c : Course) (room₀ : List ℕ) (q : Queues) : Type 0 where
+  pub ct : ℕ
+  pub top : ℕ
+  pub gone : List Waiting
+  pub us : List Uncommitted
+  pub ws : List Waiting
+  pub sent : List Answer
+  pub names : List ℕ
+  pub work : Work live runs undo room c gone us ws sent room₀
+  pub sound : Sound ct top us ws
+  pub small : Small c
+  pub rest : sending sent names (Steps.drain σ cells us ws) ≡ q
+
+-- whichever was, the rows, the room and the cells hold what its step leaves before the drain
+abbrev pub Entered : Scheme → List ℕ → List ℕ → List ℕ → List ℕ → Cells → Course → Event → List ℕ → List ℕ → List ℕ → List ℕ → Cells → Course → Type 0
+Entered σ live runs undo room cells c v live′ runs′ undo′ room′ cells′ d =
+    (e : Engine) → Ready σ live runs undo room cells c v e → Begun σ live′ runs′ undo′ room′ cells′ d room (taken σ (request v) e cells)
+
+-- and after it
 abbrev pub Accepted : Scheme → List ℕ → List ℕ → List ℕ → List ℕ → Cells → Course → Event → List ℕ → List ℕ → List ℕ → List ℕ → Cells → Course → Type 0
 Accepted σ live runs undo room cells c v live′ runs′ undo′ room′ cells′ d =
     (e : Engine) → Ready σ live runs undo room cells c v e → Left live′ runs′ undo′ room′ d cells′ [] room (taken σ (request v) e cells)

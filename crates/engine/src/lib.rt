@@ -13,7 +13,7 @@ ghost use Rattle.record.specs.View.{viewBy};
 ghost use Rattle.refusals.specs.Rest.{callOf};
 ghost use Rattle.engine.specs.Work.{Kept, waitingMore};
 ghost use Rattle.engine.specs.Called.{called, cellsAfter, roomAfter, Leaves, freshOf, recordBy, lentCall};
-ghost use Rattle.engine.specs.Ready.{Accepts, Accepted};
+ghost use Rattle.engine.specs.Ready.{Accepts, Entered, Accepted};
 use crate::course::Course;
 use model::Event;
 use model::Fragment;
@@ -92,9 +92,8 @@ pub(crate) fn join_waiting(live: &mut [u32], c: Course, number: u32, f: Fragment
     c.waits()
 }
 
-// An accepted fragment: the front's, or a new one that waits; then the drain.
-pub(crate) fn accept_fragment(
-    scheme: Scheme,
+// An accepted fragment: the front's, or a new one that waits; the drain is still to come.
+pub(crate) fn arrive(
     live: &mut [u32],
     runs: &mut [u32],
     undo: &mut [u32],
@@ -103,27 +102,23 @@ pub(crate) fn accept_fragment(
     c: Course,
     event: Event,
 ) -> Course
-    requires { ⌜ Accepts scheme (now live) (now runs) (now undo) (now room) (now cells) c event ⌝ }
+    requires { ⌜ ((σ : Scheme) × Accepts σ (now live) (now runs) (now undo) (now room) (now cells) c event) ⌝ }
     requires { ⌜ event .kind ≡ 1 ⌝ }
-    ensures { λ d. ⌜ Accepted scheme (now (live .entry)) (now (runs .entry)) (now (undo .entry)) (now (room .entry)) (now (cells .entry)) c event
-        (now (live .exit)) (now (runs .exit)) (now (undo .exit)) (now (room .exit)) (now (cells .exit)) d ⌝ }
-    ensures { λ d. ⌜ d .first + d .counts .uncommitted + d .counts .waiting ≤ 64 ⌝ }
+    ensures { λ d. ⌜ ((σ : Scheme) → Entered σ (now (live .entry)) (now (runs .entry)) (now (undo .entry)) (now (room .entry)) (now (cells .entry)) c event
+        (now (live .exit)) (now (runs .exit)) (now (undo .exit)) (now (room .exit)) (now (cells .exit)) d) ⌝ }
     ensures { λ d. ⌜ Kept c d ⌝ }
 {
     let number = event.number;
     let f = event.fragment;
     if refusals::is_front(c.counts.uncommitted, live, number) {
-        let d = front::continue_front(live, runs, undo, cells, room, c, f);
-        return drain::drain(scheme, live, runs, undo, cells, room, d);
+        return front::continue_front(live, runs, undo, cells, room, c, f);
     }
-    let d = join_waiting(live, c, number, f);
-    drain::drain(scheme, live, runs, undo, cells, room, d)
+    join_waiting(live, c, number, f)
 }
 
-// An accepted commit.
-pub(crate) fn accept_commit(
-    scheme: Scheme,
-    live: &[u32],
+// An accepted event's step; the drain is still to come.
+pub(crate) fn enter(
+    live: &mut [u32],
     runs: &mut [u32],
     undo: &mut [u32],
     cells: &mut [u32],
@@ -131,40 +126,21 @@ pub(crate) fn accept_commit(
     c: Course,
     event: Event,
 ) -> Course
-    requires { ⌜ Accepts scheme (now live) (now runs) (now undo) (now room) (now cells) c event ⌝ }
-    requires { ⌜ event .kind ≡ 2 ⌝ }
-    ensures { λ d. ⌜ Accepted scheme (now (live .entry)) (now (runs .entry)) (now (undo .entry)) (now (room .entry)) (now (cells .entry)) c event
-        (now (live .entry)) (now (runs .exit)) (now (undo .exit)) (now (room .exit)) (now (cells .exit)) d ⌝ }
-    ensures { λ d. ⌜ d .first + d .counts .uncommitted + d .counts .waiting ≤ 64 ⌝ }
+    requires { ⌜ ((σ : Scheme) × Accepts σ (now live) (now runs) (now undo) (now room) (now cells) c event) ⌝ }
+    ensures { λ d. ⌜ ((σ : Scheme) → Entered σ (now (live .entry)) (now (runs .entry)) (now (undo .entry)) (now (room .entry)) (now (cells .entry)) c event
+        (now (live .exit)) (now (runs .exit)) (now (undo .exit)) (now (room .exit)) (now (cells .exit)) d) ⌝ }
     ensures { λ d. ⌜ Kept c d ⌝ }
 {
-    let d = settle::commit(live, runs, undo, room, c);
-    drain::drain(scheme, live, runs, undo, cells, room, d)
+    if event.kind == 1 {
+        return arrive(live, runs, undo, cells, room, c, event);
+    }
+    if event.kind == 2 {
+        return settle::commit(live, runs, undo, room, c);
+    }
+    abort::abort(runs, undo, cells, c)
 }
 
-// An accepted abort.
-pub(crate) fn accept_abort(
-    scheme: Scheme,
-    live: &[u32],
-    runs: &mut [u32],
-    undo: &mut [u32],
-    cells: &mut [u32],
-    room: &mut [u32],
-    c: Course,
-    event: Event,
-) -> Course
-    requires { ⌜ Accepts scheme (now live) (now runs) (now undo) (now room) (now cells) c event ⌝ }
-    requires { ⌜ (event .kind ≡ 1 → ⊥) × (event .kind ≡ 2 → ⊥) ⌝ }
-    ensures { λ d. ⌜ Accepted scheme (now (live .entry)) (now (runs .entry)) (now (undo .entry)) (now (room .entry)) (now (cells .entry)) c event
-        (now (live .entry)) (now (runs .exit)) (now (undo .exit)) (now (room .exit)) (now (cells .exit)) d ⌝ }
-    ensures { λ d. ⌜ d .first + d .counts .uncommitted + d .counts .waiting ≤ 64 ⌝ }
-    ensures { λ d. ⌜ Kept c d ⌝ }
-{
-    let d = abort::abort(runs, undo, cells, c);
-    drain::drain(scheme, live, runs, undo, cells, room, d)
-}
-
-// An accepted event: its step, and the drain.
+// An accepted event: its step, and "then drain".
 pub(crate) fn accept(
     scheme: Scheme,
     live: &mut [u32],
@@ -181,13 +157,8 @@ pub(crate) fn accept(
     ensures { λ d. ⌜ d .first + d .counts .uncommitted + d .counts .waiting ≤ 64 ⌝ }
     ensures { λ d. ⌜ Kept c d ⌝ }
 {
-    if event.kind == 1 {
-        return accept_fragment(scheme, live, runs, undo, cells, room, c, event);
-    }
-    if event.kind == 2 {
-        return accept_commit(scheme, live, runs, undo, cells, room, c, event);
-    }
-    accept_abort(scheme, live, runs, undo, cells, room, c, event)
+    let d = enter(live, runs, undo, cells, room, c, event);
+    drain::drain(scheme, live, runs, undo, cells, room, d)
 }
 
 // An accepted call, carried out where the rows stand: unused places cleared, the event's step, and the rows of those that are gone closed up.
