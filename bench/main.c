@@ -11,7 +11,7 @@
 #include <stdlib.h>
 #include <string.h>
 
-/* Copies: 64 records are 620 KB. */
+/* Copies: 64 records are 636 KB. */
 enum { CYCLES = 20, COPIES = 64, MOST_ROWS = 64 };
 
 /* Those that a row is timed with. */

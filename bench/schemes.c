@@ -35,6 +35,7 @@ typedef struct tally {
     uint64_t waited;              /* slots from each single's arrival to its answer, added up */
     uint32_t order[TRANSACTIONS]; /* those that settled, as they did */
     uint32_t arrived[TRANSACTIONS + 1], answered[TRANSACTIONS + 1]; /* the slots; 0 where there is no valid answer */
+    uint32_t attempt[TRANSACTIONS + 1]; /* of the last answer */
     uint32_t of_single[TRANSACTIONS + 1][HARUKDALIS_ANSWER_WORDS];
 } tally;
 
@@ -104,7 +105,7 @@ static void take(tally *t, const plan *p, step *s, const fate *fates, const engi
     t->undone += undone;
     if (kind == HARUKDALIS_ABORT) {
         t->aborts++;
-        /* A coordinator discards every answer that it has to a larger number. */
+        /* Every answer that a coordinator has to a larger number is of an attempt that is over. */
         memset(&t->answered[number], 0, (TRANSACTIONS + 1 - number) * sizeof(uint32_t));
     } else if (kind == HARUKDALIS_COMMIT) {
         t->order[t->settled++] = number;
@@ -113,10 +114,12 @@ static void take(tally *t, const plan *p, step *s, const fate *fates, const engi
         const uint32_t *answer = &room[i * HARUKDALIS_ANSWER_WORDS];
         uint32_t whose = answer[HARUKDALIS_ANSWER_TRANSACTION];
         t->answered[whose] = t->slots;
+        t->attempt[whose] = answer[HARUKDALIS_ANSWER_ATTEMPT];
         if (fates[whose] == SINGLE) {
             t->order[t->settled++] = whose;
             t->waited += t->slots - t->arrived[whose];
             memcpy(t->of_single[whose], answer, sizeof t->of_single[whose]);
+            t->of_single[whose][HARUKDALIS_ANSWER_ATTEMPT] = 0; /* the schemes agree on all else */
         }
     }
 }
@@ -167,11 +170,24 @@ static plan *same_calls(const plan *from, const fate *fates, const engine *e, ta
     return p;
 }
 
+/* Each undoing is one more attempt of one transaction, and the last answer of each is that of its last attempt. */
+static uint32_t attempts_over(const tally *t)
+{
+    uint32_t number, sum = 0;
+    for (number = 1; number <= TRANSACTIONS; number++) {
+        sum += t->attempt[number] - 1;
+    }
+    return sum;
+}
+
 /* What both schemes owe each other and the rules, over one load. */
 static void must_agree(const point *o)
 {
     const tally *one = o->came[SPECULATION];
     int way;
+    for (way = 0; way < WAYS; way++) {
+        must(attempts_over(o->came[way]) == o->came[way]->undone, o->name, "the attempts");
+    }
     must(one->settled + one->aborts == TRANSACTIONS, o->name, "settled and aborted");
     must(one->runs == TRANSACTIONS + one->undone, o->name, "runs by speculation");
     must(one->undone <= (HARUKDALIS_DEPTH - 1) * one->aborts, o->name, "what aborts undo");

@@ -35,7 +35,7 @@ extern "C" {
 #define HARUKDALIS_LEAST_ROOM 1024u      /* words that every call must lend for answers */
 #define HARUKDALIS_ANSWER_WORDS 16u      /* words of an answer */
 #define HARUKDALIS_EVENT_WORDS 29u       /* words of an event */
-#define HARUKDALIS_RECORD_BYTES 9680u    /* bytes of a record */
+#define HARUKDALIS_RECORD_BYTES 9936u    /* bytes of a record */
 
 /* Kinds of an event. A decision (commit or abort) is its kind, its number and 27 zeros. */
 #define HARUKDALIS_FRAGMENT 1u
@@ -80,12 +80,21 @@ extern "C" {
  * transaction failed, all that it changed is taken back, and the count is 1: the number is the content that the failing
  * operation found in its cell. Earlier changes of its own transaction are in it, although they are taken back.
  * docs/INTEGRATION.md says when to show it.
+ *
+ * A transaction's attempt is 1, and one more after each undoing: an abort raises it for each one behind the front that
+ * it undoes and requeues. A further fragment of the front does not. Of a transaction's answers to the same fragment the
+ * one of the largest attempt is the newest. An answer with a dependence is right if the dependence commits in the
+ * attempt that the answer names, which is so if that is the attempt of the last answer sent for it before its commit.
+ * Else another answer comes. No word tells which of its transaction's fragments an answer is to. The last two words
+ * are 0.
  */
 #define HARUKDALIS_ANSWER_TRANSACTION 0u
-#define HARUKDALIS_ANSWER_DEPENDENCE 1u /* 0, or the number that must commit for this answer to hold */
-#define HARUKDALIS_ANSWER_PLACE 2u      /* 0, or the place 1 to 8 of the operation that failed */
-#define HARUKDALIS_ANSWER_COUNT 3u      /* how many numbers follow, at most 8; 1 where the place is not 0 */
-#define HARUKDALIS_ANSWER_NUMBERS 4u    /* eight words; those beyond the count are 0 */
+#define HARUKDALIS_ANSWER_DEPENDENCE 1u          /* 0, or the number that must commit, in the attempt below */
+#define HARUKDALIS_ANSWER_PLACE 2u               /* 0, or the place 1 to 8 of the operation that failed */
+#define HARUKDALIS_ANSWER_COUNT 3u               /* how many numbers follow, at most 8; 1 where the place is not 0 */
+#define HARUKDALIS_ANSWER_NUMBERS 4u             /* eight words; those beyond the count are 0 */
+#define HARUKDALIS_ANSWER_ATTEMPT 12u            /* the transaction's attempt: 1, and one more after each undoing */
+#define HARUKDALIS_ANSWER_DEPENDENCE_ATTEMPT 13u /* the attempt in which the dependence must commit; 0 for none */
 
 /* What a call returns: the first that applies. Every refusal leaves all as it was and sends no answer. */
 #define HARUKDALIS_ACCEPTED 0u
@@ -114,17 +123,17 @@ typedef struct harukdalis_record {
     uint32_t largest;     /* the largest number accepted */
     uint32_t uncommitted; /* how many are uncommitted */
     uint32_t waiting;     /* how many wait */
-    uint32_t live[1792];  /* 64 rows of 28: the uncommitted ones, then the waiting ones */
+    uint32_t live[1856];  /* 64 rows of 29: the uncommitted ones, then the waiting ones */
     uint32_t runs[256];   /* 16 rows of 16, one beside each uncommitted one */
     uint32_t undo[368];   /* 184 pairs of cell and old number, oldest first */
 } harukdalis_record;
 
 #if defined(__cplusplus) && __cplusplus >= 201103L
-static_assert(sizeof(harukdalis_record) == HARUKDALIS_RECORD_BYTES, "a record is 9680 bytes");
+static_assert(sizeof(harukdalis_record) == HARUKDALIS_RECORD_BYTES, "a record is 9936 bytes");
 #elif defined(__STDC_VERSION__) && __STDC_VERSION__ >= 201112L
-_Static_assert(sizeof(harukdalis_record) == HARUKDALIS_RECORD_BYTES, "a record is 9680 bytes");
+_Static_assert(sizeof(harukdalis_record) == HARUKDALIS_RECORD_BYTES, "a record is 9936 bytes");
 #else
-typedef char harukdalis_record_is_9680_bytes[sizeof(harukdalis_record) == HARUKDALIS_RECORD_BYTES ? 1 : -1];
+typedef char harukdalis_record_is_9936_bytes[sizeof(harukdalis_record) == HARUKDALIS_RECORD_BYTES ? 1 : -1];
 #endif
 
 /*
@@ -165,8 +174,8 @@ uint32_t harukdalis_call(harukdalis_record *record,
  * releases have their dependences.
  *
  * A record keeps no scheme, so any call on it may be either one. The same events from the same start bring the same
- * returned numbers by both, the same answers to singles in the same calls, and the same cells whenever nothing is live;
- * the answers of multis may differ. docs/INTEGRATION.md says when to take which.
+ * returned numbers by both, the same answers to singles in the same calls, attempts aside, and the same cells whenever
+ * nothing is live; the answers of multis may differ. docs/INTEGRATION.md says when to take which.
  */
 uint32_t harukdalis_call_blocking(harukdalis_record *record,
                                   uint32_t *cells, size_t cell_count,

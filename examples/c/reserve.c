@@ -62,9 +62,11 @@ static void expect(const char *what, uint32_t got, uint32_t expected)
 static void print_answer(const uint32_t *answer)
 {
     uint32_t i;
-    printf("  transaction %lu", (unsigned long)answer[HARUKDALIS_ANSWER_TRANSACTION]);
+    printf("  transaction %lu, attempt %lu", (unsigned long)answer[HARUKDALIS_ANSWER_TRANSACTION],
+           (unsigned long)answer[HARUKDALIS_ANSWER_ATTEMPT]);
     if (answer[HARUKDALIS_ANSWER_DEPENDENCE] != 0) {
-        printf(", if %lu commits", (unsigned long)answer[HARUKDALIS_ANSWER_DEPENDENCE]);
+        printf(", if %lu commits in attempt %lu", (unsigned long)answer[HARUKDALIS_ANSWER_DEPENDENCE],
+               (unsigned long)answer[HARUKDALIS_ANSWER_DEPENDENCE_ATTEMPT]);
     }
     if (answer[HARUKDALIS_ANSWER_PLACE] != 0) {
         printf(": failed at operation %lu, which found %lu\n", (unsigned long)answer[HARUKDALIS_ANSWER_PLACE],
@@ -95,13 +97,18 @@ static void call(const char *story, const uint32_t *event, uint32_t number, uint
     }
 }
 
-/* An answer of the last call: its transaction, its dependence, its place, its count and its first number. */
-static void expect_answer(uint32_t i, uint32_t transaction, uint32_t dependence, uint32_t place, uint32_t count,
-                          uint32_t first)
+/*
+ * An answer of the last call: its transaction, its attempt, its dependence, its place, its count and its first number.
+ * What is depended on in this story is never undone.
+ */
+static void expect_answer(uint32_t i, uint32_t transaction, uint32_t attempt, uint32_t dependence, uint32_t place,
+                          uint32_t count, uint32_t first)
 {
     const uint32_t *answer = room + i * HARUKDALIS_ANSWER_WORDS;
     expect("the transaction", answer[HARUKDALIS_ANSWER_TRANSACTION], transaction);
+    expect("the attempt", answer[HARUKDALIS_ANSWER_ATTEMPT], attempt);
     expect("the dependence", answer[HARUKDALIS_ANSWER_DEPENDENCE], dependence);
+    expect("the dependence's attempt", answer[HARUKDALIS_ANSWER_DEPENDENCE_ATTEMPT], dependence == 0 ? 0 : 1);
     expect("the place", answer[HARUKDALIS_ANSWER_PLACE], place);
     expect("the count of numbers", answer[HARUKDALIS_ANSWER_COUNT], count);
     expect("the first number", answer[HARUKDALIS_ANSWER_NUMBERS], first);
@@ -160,38 +167,44 @@ int main(void)
     printf("four shelves: 12 pads, 5 filters, 40 wipers, 0 reserved\n");
 
     call("1 sells 2 pads", fragment(1, 0, sale, 2), HARUKDALIS_ACCEPTED, 1);
-    expect_answer(0, 1, 0, 0, 2, 10);
+    expect_answer(0, 1, 1, 0, 0, 2, 10);
 
     /* A multi: it is answered, and stays undecided until its coordinator has heard all depots. */
     call("2 reserves 3 pads across depots", fragment(2, 1, reservation, 2), HARUKDALIS_ACCEPTED, 1);
-    expect_answer(0, 2, 0, 0, 2, 7);
+    expect_answer(0, 2, 1, 0, 0, 2, 7);
 
     /* A single behind it runs, but a customer must not hear of pads that 2 may give back. */
     call("3 sells 1 pad and 1 filter, behind 2", fragment(3, 0, held, 2), HARUKDALIS_ACCEPTED, 0);
 
-    /* A multi of the same coordinator is answered at once: that coordinator knows what becomes of 2. */
+    /*
+     * A multi of the same coordinator is answered at once: that coordinator knows what becomes of 2, and in which attempt
+     * 2 was answered last.
+     */
     call("4 reserves 2 pads, behind 2", fragment(4, 1, second, 2), HARUKDALIS_ACCEPTED, 1);
-    expect_answer(0, 4, 2, 0, 2, 4);
+    expect_answer(0, 4, 1, 2, 0, 2, 4);
 
     /* The network delivers twice, a clerk mistypes, a coordinator is early: nothing changes. */
     call("2's fragment comes again", fragment(2, 1, reservation, 2), HARUKDALIS_FRONT_FINISHED, 0);
     call("5 asks for a shelf that is not there", fragment(5, 0, beyond, 1), HARUKDALIS_CELL_OUTSIDE, 0);
     call("4 is committed ahead of 2", decision(HARUKDALIS_COMMIT, 4), HARUKDALIS_NOT_FRONT, 0);
 
-    /* 3 settles and is answered. 4 is the front now; its answer was sent and holds, so it is not sent again. */
+    /*
+     * 3 settles and is answered. 4 is the front now; its answer was sent and holds, as 2 was answered in attempt 1 and in
+     * no other, so it is not sent again.
+     */
     call("2 is committed", decision(HARUKDALIS_COMMIT, 2), HARUKDALIS_ACCEPTED, 1);
-    expect_answer(0, 3, 0, 0, 2, 6);
+    expect_answer(0, 3, 1, 0, 0, 2, 6);
 
     /* 6 needs 5 pads, and while 4 has its 2 there are 4: it fails, for now. Its failure is held like any answer. */
     call("6 sells 5 pads, behind 4", fragment(6, 0, large, 2), HARUKDALIS_ACCEPTED, 0);
 
-    /* 4 gives its pads back, 6 is requeued, runs again and finds enough. */
+    /* 4 gives its pads back, 6 is requeued, runs again and finds enough: its second attempt. */
     call("4 is aborted", decision(HARUKDALIS_ABORT, 4), HARUKDALIS_ACCEPTED, 1);
-    expect_answer(0, 6, 0, 0, 2, 40);
+    expect_answer(0, 6, 2, 0, 0, 2, 40);
 
     /* All of a failed transaction is taken back: the wipers too. Its answer tells what the failing operation found. */
     call("7 sells 10 wipers and 2 pads", fragment(7, 0, too_much, 2), HARUKDALIS_ACCEPTED, 1);
-    expect_answer(0, 7, 0, 2, 1, 1);
+    expect_answer(0, 7, 1, 0, 2, 1, 1);
     call("4's abort comes again", decision(HARUKDALIS_ABORT, 4), HARUKDALIS_NOT_LIVE, 0);
 
     printf("shelves:");

@@ -6,7 +6,7 @@
 //! cargo run --example reserve
 //! ```
 
-use harukdalis::{Engine, Event, Op, Outcome, Refusal, Room};
+use harukdalis::{Dependence, Engine, Event, Op, Outcome, Refusal, Room};
 use std::error::Error;
 use std::fmt::Write;
 
@@ -16,8 +16,8 @@ const WIPERS: u32 = 2;
 const RESERVED: u32 = 3;
 const SHELVES: u32 = 4;
 
-/// What must come back: the answers as transaction, dependence, outcome; or a refusal.
-type Expected<'a> = Result<&'a [(u32, Option<u32>, Outcome<'a>)], Refusal>;
+/// What must come back: the answers as transaction, attempt, dependence, outcome; or a refusal.
+type Expected<'a> = Result<&'a [(u32, u32, Option<Dependence>, Outcome<'a>)], Refusal>;
 
 struct Depot {
     engine: Engine,
@@ -38,14 +38,14 @@ impl Depot {
         };
         writeln!(self.told, "{story}: accepted")?;
         let answers: Vec<_> = answers.collect();
-        let got: Vec<_> = answers.iter().map(|a| (a.transaction(), a.dependence(), a.outcome())).collect();
+        let got: Vec<_> = answers.iter().map(|a| (a.transaction(), a.attempt(), a.dependence(), a.outcome())).collect();
         if expected != Ok(&got[..]) {
             return Err(format!("{story}: {got:?}, expected {expected:?}").into());
         }
-        for (transaction, dependence, outcome) in got {
-            write!(self.told, "  transaction {transaction}")?;
-            if let Some(number) = dependence {
-                write!(self.told, ", if {number} commits")?;
+        for (transaction, attempt, dependence, outcome) in got {
+            write!(self.told, "  transaction {transaction}, attempt {attempt}")?;
+            if let Some(Dependence { transaction, attempt }) = dependence {
+                write!(self.told, ", if {transaction} commits in attempt {attempt}")?;
             }
             match outcome {
                 Outcome::Failed { place, found } => {
@@ -87,18 +87,20 @@ pub fn story() -> Result<String, Box<dyn Error>> {
     writeln!(depot.told, "four shelves: 12 pads, 5 filters, 40 wipers, 0 reserved")?;
 
     let sale = Event::single(1, &[Op::take(PADS, 2), Op::read(FILTERS)]);
-    depot.call("1 sells 2 pads", &sale, Ok(&[(1, None, numbers(&[10, 5]))]))?;
+    depot.call("1 sells 2 pads", &sale, Ok(&[(1, 1, None, numbers(&[10, 5]))]))?;
 
     // A multi: it is answered, and stays undecided until its coordinator has heard all depots.
-    depot.call("2 reserves 3 pads across depots", &reservation, Ok(&[(2, None, numbers(&[7, 3]))]))?;
+    depot.call("2 reserves 3 pads across depots", &reservation, Ok(&[(2, 1, None, numbers(&[7, 3]))]))?;
 
     // A single behind it runs, but a customer must not hear of pads that 2 may give back.
     let held = Event::single(3, &[Op::take(PADS, 1), Op::take(FILTERS, 1)]);
     depot.call("3 sells 1 pad and 1 filter, behind 2", &held, Ok(&[]))?;
 
-    // A multi of the same coordinator is answered at once: that coordinator knows what becomes of 2.
+    // A multi of the same coordinator is answered at once: that coordinator knows what becomes of 2, and in which attempt
+    // 2 was answered last.
     let second = Event::multi(4, 1, true, &[Op::take(PADS, 2), Op::add(RESERVED, 2)]);
-    depot.call("4 reserves 2 pads, behind 2", &second, Ok(&[(4, Some(2), numbers(&[4, 5]))]))?;
+    let on_2 = Some(Dependence { transaction: 2, attempt: 1 });
+    depot.call("4 reserves 2 pads, behind 2", &second, Ok(&[(4, 1, on_2, numbers(&[4, 5]))]))?;
 
     // The network delivers twice, a clerk mistypes, a coordinator is early: nothing changes.
     depot.call("2's fragment comes again", &reservation, Err(Refusal::FrontFinished))?;
@@ -106,20 +108,21 @@ pub fn story() -> Result<String, Box<dyn Error>> {
     depot.call("5 asks for a shelf that is not there", &beyond, Err(Refusal::CellOutside))?;
     depot.call("4 is committed ahead of 2", &Event::commit(4), Err(Refusal::NotFront))?;
 
-    // 3 settles and is answered. 4 is the front now; its answer was sent and holds, so it is not sent again.
-    depot.call("2 is committed", &Event::commit(2), Ok(&[(3, None, numbers(&[6, 4]))]))?;
+    // 3 settles and is answered. 4 is the front now; its answer was sent and holds, as 2 was answered in attempt 1 and in
+    // no other, so it is not sent again.
+    depot.call("2 is committed", &Event::commit(2), Ok(&[(3, 1, None, numbers(&[6, 4]))]))?;
 
     // 6 needs 5 pads, and while 4 has its 2 there are 4: it fails, for now. Its failure is held like any answer.
     let large = Event::single(6, &[Op::need(WIPERS, 30), Op::take(PADS, 5)]);
     depot.call("6 sells 5 pads, behind 4", &large, Ok(&[]))?;
 
-    // 4 gives its pads back, 6 is requeued, runs again and finds enough.
-    depot.call("4 is aborted", &Event::abort(4), Ok(&[(6, None, numbers(&[40, 1]))]))?;
+    // 4 gives its pads back, 6 is requeued, runs again and finds enough: its second attempt.
+    depot.call("4 is aborted", &Event::abort(4), Ok(&[(6, 2, None, numbers(&[40, 1]))]))?;
 
     // All of a failed transaction is taken back: the wipers too. Its answer tells what the failing operation found.
     let too_much = Event::single(7, &[Op::take(WIPERS, 10), Op::take(PADS, 2)]);
     let failed = Outcome::Failed { place: 2, found: 1 };
-    depot.call("7 sells 10 wipers and 2 pads", &too_much, Ok(&[(7, None, failed)]))?;
+    depot.call("7 sells 10 wipers and 2 pads", &too_much, Ok(&[(7, 1, None, failed)]))?;
     depot.call("4's abort comes again", &Event::abort(4), Err(Refusal::NotLive))?;
 
     let shelves = depot.cells.map(|content| content.to_string());

@@ -10,11 +10,22 @@ const DEPENDENCE: usize = 1;
 const PLACE: usize = 2;
 const COUNT: usize = 3;
 const NUMBERS: usize = 4;
+const ATTEMPT: usize = 12;
+const DEPENDENCE_ATTEMPT: usize = 13;
 
 /// The answer to a fragment.
 #[derive(Clone, Copy, Debug, PartialEq, Eq, Hash)]
 pub struct Answer {
     words: [u32; ANSWER_WORDS],
+}
+
+/// What must come true for an answer to be right: that a transaction ahead of its own commits, in this very attempt.
+#[derive(Clone, Copy, Debug, PartialEq, Eq, Hash)]
+pub struct Dependence {
+    /// The number of that transaction.
+    pub transaction: u32,
+    /// The attempt in which it must commit: that of the last answer which this partition sends for it before.
+    pub attempt: u32,
 }
 
 /// What an answer tells.
@@ -49,12 +60,21 @@ impl Answer {
         self.words[TRANSACTION]
     }
 
-    /// The transaction that must commit for this answer to hold, if there is one. Until it has, the answer is for the
-    /// coordinator alone; once it is aborted, the answer is void and comes again.
-    pub const fn dependence(&self) -> Option<u32> {
+    /// The attempt of the transaction that is answered: 1, and one more after each undoing, which an abort ahead of it
+    /// does. A further fragment does not raise it. Of two answers to the same fragment the one of the larger attempt is
+    /// the newer. Which fragment of its transaction it answers no word of it tells.
+    pub const fn attempt(&self) -> u32 {
+        self.words[ATTEMPT]
+    }
+
+    /// The transaction that must commit for this answer to be right, and the attempt in which it must, if there is one.
+    /// Until it has, the answer is for the coordinator alone. If it is aborted, or commits in another attempt, the
+    /// answer is void and another one comes. Attempts are this partition's: the same transaction may commit in another
+    /// attempt elsewhere.
+    pub const fn dependence(&self) -> Option<Dependence> {
         match self.words[DEPENDENCE] {
             0 => None,
-            number => Some(number),
+            transaction => Some(Dependence { transaction, attempt: self.words[DEPENDENCE_ATTEMPT] }),
         }
     }
 

@@ -8,7 +8,7 @@ use crate::{linked, Answers, Event, Record, Refusal, Scheme, LEAST_ROOM};
 /// not what is in them.
 #[derive(Clone, Debug, PartialEq, Eq)]
 pub struct Engine {
-    // Boxed, so that moving an engine does not copy the record's 9,680 bytes.
+    // Boxed, so that moving an engine does not copy the record's 9,936 bytes.
     record: Box<Record>,
 }
 
@@ -47,7 +47,7 @@ impl Engine {
     /// The same by a scheme. Any call may name another one than the call before it.
     ///
     /// ```
-    /// use harukdalis::{Engine, Event, Op, Outcome, Refusal, Room, Scheme};
+    /// use harukdalis::{Dependence, Engine, Event, Op, Outcome, Refusal, Room, Scheme};
     ///
     /// let (mut engine, mut cells, mut room) = (Engine::start(1)?, [5], Room::new());
     /// let reserve = |number| Event::multi(number, 1, true, &[Op::take(0, 1)]);
@@ -57,15 +57,16 @@ impl Engine {
     /// assert_eq!(engine.call_by(Scheme::Blocking, &mut cells, &reserve(2), &mut room)?.len(), 0);
     /// assert_eq!(cells, [4]);
     ///
-    /// // It is the front when the first is aborted, and is answered then; by speculation it would have been undone.
+    /// // It is the front when the first is aborted, and is answered then, in its first attempt. By speculation it
+    /// // would have been undone, and this would be its second.
     /// let mut answers = engine.call_by(Scheme::Blocking, &mut cells, &Event::abort(1), &mut room)?;
     /// let answer = answers.next().unwrap();
-    /// assert_eq!((answer.transaction(), answer.dependence()), (2, None));
+    /// assert_eq!((answer.transaction(), answer.attempt(), answer.dependence()), (2, 1, None));
     /// assert_eq!(answer.outcome(), Outcome::Numbers(&[4]));
     ///
-    /// // From here on the depot speculates: a third one runs behind the second.
+    /// // From here on the depot speculates: a third one runs behind the second, which has run once.
     /// let mut answers = engine.call_by(Scheme::Speculation, &mut cells, &reserve(3), &mut room)?;
-    /// assert_eq!(answers.next().unwrap().dependence(), Some(2));
+    /// assert_eq!(answers.next().unwrap().dependence(), Some(Dependence { transaction: 2, attempt: 1 }));
     /// # Ok::<(), Refusal>(())
     /// ```
     pub fn call_by<'r>(

@@ -94,7 +94,7 @@ impl Event {
     }
 
     /// A fragment of a multi: its number, its coordinator from 1 on, whether this is its last fragment here, and 1 to 8
-    /// operations.
+    /// operations. Which of its fragments it is no word tells: deliver each once, and in order.
     pub fn multi(number: u32, coordinator: u8, last: bool, ops: &[Op]) -> Event {
         Event::fragment(number, true, last, u32::from(coordinator), ops)
     }
@@ -118,7 +118,8 @@ impl Event {
         Event::decision(COMMIT, number)
     }
 
-    /// The decision that a multi is to be undone.
+    /// The decision that a multi is to be undone. What has run behind it is undone too, and runs again in its next
+    /// attempt.
     pub fn abort(number: u32) -> Event {
         Event::decision(ABORT, number)
     }

@@ -5,8 +5,9 @@
 //! transaction of this partition alone. A *multi* spans partitions: it is answered, and then undecided until its
 //! coordinator has heard all of them. What arrives meanwhile is run behind it, on the guess that it commits. A single's
 //! answer is then held back; a multi's may be sent with a *dependence*, the number that must commit for the answer to
-//! hold. It is held back while a multi of another coordinator is ahead of it: the commit of the last of these releases
-//! it. If the multi ahead is aborted, what ran behind it is undone, waits again and runs again.
+//! be right, and the *attempt* in which it must. It is held back while a multi of another coordinator is ahead of it:
+//! the commit of the last of these releases it. If the multi ahead is aborted, what ran behind it is undone, waits
+//! again and runs again, in its next attempt.
 //!
 //! ```
 //! use harukdalis::{Engine, Event, Op, Outcome, Refusal, Room};
@@ -20,7 +21,7 @@
 //! let reserve = Event::multi(1, 1, true, &[Op::take(0, 3)]);
 //! let answers: Vec<_> = engine.call(&mut cells, &reserve, &mut room)?.collect();
 //! assert_eq!(answers[0].transaction(), 1);
-//! assert_eq!(answers[0].dependence(), None);
+//! assert_eq!((answers[0].attempt(), answers[0].dependence()), (1, None));
 //! assert_eq!(answers[0].outcome(), Outcome::Numbers(&[2]));
 //!
 //! // A sale behind it wants 4, finds 2 and fails. It has run on a guess, so its answer is held.
@@ -30,10 +31,10 @@
 //! // The same message again is refused, and nothing changes.
 //! assert_eq!(engine.call(&mut cells, &reserve, &mut room).unwrap_err(), Refusal::FrontFinished);
 //!
-//! // The reservation is aborted: shelf 0 has 5 again, the sale runs again and is answered.
+//! // The reservation is aborted: shelf 0 has 5 again, the sale runs again and is answered, in its second attempt.
 //! let mut answers = engine.call(&mut cells, &Event::abort(1), &mut room)?;
 //! let sold = answers.next().unwrap();
-//! assert_eq!((sold.transaction(), sold.outcome()), (2, Outcome::Numbers(&[1])));
+//! assert_eq!((sold.transaction(), sold.attempt(), sold.outcome()), (2, 2, Outcome::Numbers(&[1])));
 //! assert_eq!(cells, [1, 10]);
 //!
 //! // The next sale wants 2. Its answer tells the clerk which operation failed, and that there is 1.
@@ -50,7 +51,8 @@
 //! worth is the engine's to say, so a constructor takes any values, and [`Engine::call`] refuses those that are not
 //! well formed.
 //!
-//! The document `docs/INTEGRATION.md` of the repository says what to do on each refusal and what a dependence means.
+//! The document `docs/INTEGRATION.md` of the repository says what to do on each refusal and what a dependence means for
+//! a coordinator. `examples/transfers.rs` is one, with two partitions and a network that reorders, doubles and loses.
 
 #![deny(missing_docs)]
 #![deny(unsafe_code)]
@@ -64,7 +66,7 @@ mod record;
 mod refusal;
 mod scheme;
 
-pub use answer::{Answer, Answers, Outcome};
+pub use answer::{Answer, Answers, Dependence, Outcome};
 pub use engine::{Engine, Room};
 pub use event::{Event, Op};
 pub use record::Record;
@@ -94,6 +96,6 @@ pub const ANSWER_WORDS: usize = 16;
 /// The words of an event.
 pub const EVENT_WORDS: usize = 29;
 /// The bytes of a record.
-pub const RECORD_BYTES: usize = 9680;
+pub const RECORD_BYTES: usize = 9936;
 /// The words of a record.
 pub const RECORD_WORDS: usize = RECORD_BYTES / 4;

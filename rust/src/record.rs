@@ -21,8 +21,8 @@ pub struct Record {
     pub uncommitted: u32,
     /// How many wait.
     pub waiting: u32,
-    /// 64 rows of 28 words: the uncommitted ones, then the waiting ones.
-    pub live: [u32; 1792],
+    /// 64 rows of 29 words: the uncommitted ones, then the waiting ones.
+    pub live: [u32; 1856],
     /// 16 rows of 16 words, one beside each uncommitted one.
     pub runs: [u32; 256],
     /// 184 pairs of cell and old number, oldest first.
@@ -32,7 +32,7 @@ pub struct Record {
 impl Record {
     /// The record of 0 cells, all of it 0. It is sound, and every call refuses it for its cells.
     pub const fn empty() -> Record {
-        Record { count: 0, largest: 0, uncommitted: 0, waiting: 0, live: [0; 1792], runs: [0; 256], undo: [0; 368] }
+        Record { count: 0, largest: 0, uncommitted: 0, waiting: 0, live: [0; 1856], runs: [0; 256], undo: [0; 368] }
     }
 
     /// The record of these words, whatever they are.

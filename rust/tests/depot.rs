@@ -1,18 +1,22 @@
 //! Cases of document 01 through the wrapper: what a shelf and its answers do.
 
-use harukdalis::{Engine, Event, Op, Outcome, Record, Refusal, Room, Scheme, DEPTH, TOP};
+use harukdalis::{Dependence, Engine, Event, Op, Outcome, Record, Refusal, Room, Scheme, DEPTH, TOP};
 
 /// An answer as transaction, dependence (0 for none), place (0 for none), numbers.
 type Told = (u32, u32, u32, Vec<u32>);
 
+#[derive(Clone)]
 struct Depot {
     engine: Engine,
     cells: Vec<u32>,
     room: Room,
+    /// Of the last accepted call's answers: transaction, attempt, attempt of the dependence (0 for none).
+    attempts: Vec<(u32, u32, u32)>,
 }
 
 fn depot(cells: &[u32]) -> Depot {
-    Depot { engine: Engine::start(cells.len() as u32).unwrap(), cells: cells.to_vec(), room: Room::new() }
+    let engine = Engine::start(cells.len() as u32).unwrap();
+    Depot { engine, cells: cells.to_vec(), room: Room::new(), attempts: vec![] }
 }
 
 impl Depot {
@@ -27,10 +31,16 @@ impl Depot {
             Outcome::Numbers(numbers) => (0, numbers.to_vec()),
         };
         let length = answers.len();
+        let attempts = &mut self.attempts;
+        attempts.clear();
         let answers: Vec<_> = answers
             .map(|answer| {
                 let (place, numbers) = told(answer.outcome());
-                (answer.transaction(), answer.dependence().unwrap_or(0), place, numbers)
+                let none = Dependence { transaction: 0, attempt: 0 };
+                let Dependence { transaction, attempt } = answer.dependence().unwrap_or(none);
+                assert!(answer.attempt() >= 1 && (attempt >= 1) == (transaction >= 1), "{answer:?}");
+                attempts.push((answer.transaction(), answer.attempt(), attempt));
+                (answer.transaction(), transaction, place, numbers)
             })
             .collect();
         assert_eq!(length, answers.len());
@@ -63,6 +73,7 @@ fn swap() -> Depot {
 fn p1_singles_are_answered_when_the_front_commits() {
     let mut depot = swap();
     assert_eq!(depot.call(Event::commit(1)), Ok(vec![(2, 0, 0, vec![18]), (3, 0, 0, vec![19])]));
+    assert_eq!(depot.attempts, [(2, 1, 0), (3, 1, 0)]);
     assert_eq!(depot.cells, [19]);
 }
 
@@ -70,6 +81,7 @@ fn p1_singles_are_answered_when_the_front_commits() {
 fn p2_singles_run_again_when_the_front_is_aborted() {
     let mut depot = swap();
     assert_eq!(depot.call(Event::abort(1)), Ok(vec![(2, 0, 0, vec![6]), (3, 0, 0, vec![7])]));
+    assert_eq!(depot.attempts, [(2, 2, 0), (3, 2, 0)]);
     assert_eq!(depot.cells, [7]);
 }
 
@@ -120,9 +132,9 @@ fn a_commit_releases_held_answers() {
     for (number, coordinator) in [(2, 2), (3, 2), (4, 1)] {
         assert_eq!(depot.call(add(number, coordinator)), NONE, "another coordinator is ahead");
     }
-    let mut blocking = Depot { engine: depot.engine.clone(), cells: depot.cells.clone(), room: Room::new() };
+    let mut blocking = depot.clone();
     let released = Ok(vec![(2, 0, 0, vec![7]), (3, 2, 0, vec![8])]);
-    assert_eq!(depot.call(Event::commit(1)), released);
+    assert_eq!((depot.call(Event::commit(1)), &depot.attempts[..]), (released.clone(), &[(2, 1, 0), (3, 1, 1)][..]));
     // By blocking the commit of what speculation left is the same; what comes then waits.
     assert_eq!(blocking.call_by(Scheme::Blocking, Event::commit(1)), released);
     assert_eq!(blocking.engine, depot.engine);
@@ -239,13 +251,38 @@ fn both_schemes_settle_alike() {
     }
 }
 
+/// Request L2: with 1, 3 and 5 chained, an abort of 1 undoes 3 and 5. The old answer of 5 names attempt 1 of 3, and 3
+/// commits in attempt 2.
 #[test]
 fn a_dependent_answer_comes_again_after_an_abort() {
     let mut depot = depot(&[5, 10]);
     assert_eq!(depot.call(Event::multi(1, 1, true, &[Op::set(0, 17)])), one(1, 0, &[17]));
+    assert_eq!(depot.attempts, [(1, 1, 0)]);
     assert_eq!(depot.call(Event::multi(3, 1, true, &[Op::add(0, 1)])), one(3, 1, &[18]));
+    assert_eq!(depot.attempts, [(3, 1, 1)]);
     assert_eq!(depot.call(Event::multi(5, 1, true, &[Op::add(0, 1)])), one(5, 3, &[19]));
+    assert_eq!(depot.attempts, [(5, 1, 1)]);
     assert_eq!(depot.call(Event::abort(1)), Ok(vec![(3, 0, 0, vec![6]), (5, 3, 0, vec![7])]));
+    assert_eq!(depot.attempts, [(3, 2, 0), (5, 2, 2)]);
+    assert_eq!((depot.call(Event::commit(3)), depot.call(Event::commit(5)), depot.cells[0]), (NONE, NONE, 7));
+}
+
+/// What waits, a later fragment of the front and a commit raise no attempt; a held answer carries its own.
+#[test]
+fn an_attempt_is_one_more_after_each_undoing_and_no_other_time() {
+    let mut depot = depot(&[0]);
+    let add = |number, coordinator, last| Event::multi(number, coordinator, last, &[Op::add(0, 1)]);
+    for event in [add(1, 9, true), add(2, 1, true), add(3, 2, false), add(4, 2, true)] {
+        depot.call(event).unwrap();
+    }
+    // 3 is not finished, so 4 waits. 2 and 3 run again, and 3 is held behind another coordinator's 2.
+    assert_eq!((depot.call(Event::abort(1)), &depot.attempts[..]), (one(2, 0, &[1]), &[(2, 2, 0)][..]));
+    assert_eq!((depot.call(Event::commit(2)), &depot.attempts[..]), (one(3, 0, &[2]), &[(3, 2, 0)][..]));
+    assert_eq!(depot.call(add(3, 2, true)), Ok(vec![(3, 0, 0, vec![3]), (4, 3, 0, vec![4])]));
+    assert_eq!(depot.attempts, [(3, 2, 0), (4, 1, 2)]);
+    assert_eq!((depot.call(Event::abort(3)), &depot.attempts[..]), (one(4, 0, &[2]), &[(4, 2, 0)][..]));
+    // The last word of a live one's row.
+    assert_eq!(depot.engine.record().live[28], 2);
 }
 
 #[test]

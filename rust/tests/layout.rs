@@ -1,7 +1,7 @@
 //! Holds what is written by hand on both sides of the boundary to the engine's own source: the header and this crate
 //! against the struct, the constants and the exported functions of the Rattle crates, and against the linked archive.
 
-use harukdalis::{linked, Answer, Event, Op, Outcome, Record, Refusal, Scheme};
+use harukdalis::{linked, Answer, Dependence, Event, Op, Outcome, Record, Refusal, Scheme};
 use std::collections::{BTreeMap, BTreeSet};
 use std::mem::{offset_of, size_of, size_of_val};
 
@@ -140,7 +140,18 @@ fn words_of_this_crate() -> BTreeMap<String, u64> {
         at[0]
     };
     put("ANSWER_TRANSACTION", only(&|at| with(at, 7).transaction() == 7));
-    put("ANSWER_DEPENDENCE", only(&|at| with(at, 7).dependence() == Some(7)));
+    let named = |transaction, attempt| Some(Dependence { transaction, attempt });
+    let dependence = only(&|at| with(at, 7).dependence() == named(7, 0));
+    put("ANSWER_DEPENDENCE", dependence);
+    put("ANSWER_ATTEMPT", only(&|at| with(at, 7).attempt() == 7));
+    let of_dependence = |at: usize| {
+        let mut words = with(dependence, 7).words();
+        words[at] = 9;
+        Answer::from_words(words).dependence() == named(7, 9)
+    };
+    put("ANSWER_DEPENDENCE_ATTEMPT", only(&of_dependence));
+    // Without a dependence it has no attempt, whatever stands there.
+    assert!(all().filter(|&at| at != dependence).all(|at| with(at, 7).dependence().is_none()));
     let place = only(&|at| with(at, 7).outcome() == Outcome::Failed { place: 7, found: 0 });
     put("ANSWER_PLACE", place);
     let count = only(&|at| with(at, 7).outcome() == Outcome::Numbers(&[0; 7]));

@@ -2,8 +2,8 @@
 //! types.
 
 use harukdalis::{
-    Answer, Answers, Engine, Event, Op, Outcome, Record, Refusal, Room, Scheme, EVENT_WORDS, LEAST_ROOM, MOST_CELLS,
-    RECORD_WORDS, TOP,
+    Answer, Answers, Dependence, Engine, Event, Op, Outcome, Record, Refusal, Room, Scheme, EVENT_WORDS, LEAST_ROOM,
+    MOST_CELLS, RECORD_WORDS, TOP,
 };
 
 /// A call that must be refused by this number by either scheme, and leave everything as it was.
@@ -54,6 +54,21 @@ fn r1_unsound_record() {
     let mut record = engine.into_record();
     record.waiting = 64;
     refused(1, &Engine::from_record(record), &cells, &read(7).words(), LEAST_ROOM);
+    // Attempts: at least 1, and with those ahead at most 64, of the uncommitted 5 and of 6 behind it, which may wait.
+    for scheme in Scheme::ALL {
+        let (engine, cells) = after_by(scheme, &[front(true), read(6)]);
+        for (row, most) in [(0, 64), (1, 63)] {
+            for attempt in [0, most + 1, TOP] {
+                let mut record = engine.clone().into_record();
+                record.live[29 * row + 28] = attempt;
+                refused(1, &Engine::from_record(record), &cells, &read(7).words(), LEAST_ROOM);
+            }
+            let mut record = engine.clone().into_record();
+            record.live[29 * row + 28] = most;
+            let (mut engine, mut cells, mut room) = (Engine::from_record(record), cells.clone(), Room::new());
+            assert!(engine.call_by(scheme, &mut cells, &Event::abort(5), &mut room).is_ok());
+        }
+    }
     // Any words may be handed in, and 1 comes before all else.
     refused(1, &Engine::from_record(Record::from_words(&[TOP; RECORD_WORDS])), &[], &[], 0);
     let mut words = [0; RECORD_WORDS];
@@ -233,18 +248,21 @@ fn records_are_their_words() {
     }
     let record = Record::from_words(&words);
     assert_eq!(record.words(), words);
-    assert_eq!((record.count, record.waiting, record.live[0], record.runs[0], record.undo[0]), (1, 4, 5, 1797, 2053));
+    assert_eq!((record.count, record.waiting, record.live[0], record.runs[0], record.undo[0]), (1, 4, 5, 1861, 2117));
 }
 
 #[test]
 fn answers_are_read_from_any_room() {
     let mut words = [0; 40];
     words[..6].copy_from_slice(&[9, 0, 0, 2, 11, 12]);
+    words[12] = 3;
     words[16..21].copy_from_slice(&[10, 9, 3, 1, 6]);
+    words[28..30].copy_from_slice(&[2, 3]);
     let answers: Vec<Answer> = Answers::in_room(&words, 2).collect();
-    assert_eq!((answers[0].transaction(), answers[0].dependence()), (9, None));
+    assert_eq!((answers[0].transaction(), answers[0].attempt(), answers[0].dependence()), (9, 3, None));
     assert_eq!(answers[0].outcome(), Outcome::Numbers(&[11, 12]));
-    assert_eq!((answers[1].transaction(), answers[1].dependence()), (10, Some(9)));
+    let nine = Dependence { transaction: 9, attempt: 3 };
+    assert_eq!((answers[1].transaction(), answers[1].attempt(), answers[1].dependence()), (10, 2, Some(nine)));
     assert_eq!(answers[1].outcome(), Outcome::Failed { place: 3, found: 6 });
     assert_eq!(answers[1].words(), words[16..32]);
     let lengths = [0, 1, 2, 3, usize::MAX].map(|count| Answers::in_room(&words, count).len());

@@ -25,5 +25,6 @@ library-demand3 cs = record {
   settling = λ calls l c k. carried cs .settling (asCalls calls) (all-eight calls) l (asCall c) k;
   plain = λ calls l c k. carried cs .plain (asCalls calls) (all-eight calls) l (asCall c) (eight (c .words)) k;
   dependent = λ calls l c k between b d. carried cs .dependent (asCalls calls) (all-eight calls) l (asCall c) (eight (c .words)) k (asCalls between) (all-eight between) b (asCall d);
+  seen = λ calls l c k between b d. carried cs .seen (asCalls calls) (all-eight calls) l (asCall c) (eight (c .words)) k (asCalls between) (all-eight between) b (asCall d);
   never = λ calls c. carried cs .never (asCalls calls) (all-eight calls) (asCall c);
 }

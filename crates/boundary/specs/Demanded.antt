@@ -6,7 +6,7 @@ use mathlib.Core.List.{List, map}
 use Rattle.model.specs.Operations.{Cells}
 use Rattle.model.specs.Refusals.{Call}
 use Rattle.model.specs.declared.Scheme.{Scheme}
-use Rattle.carried.specs.Carried.{returned, RecordRun, onwardR, runsR, freshR, LendsR, AllLendR, CellsHoldR, QueueOrderR, SettlingOrderR, PlainRightR, DependentRightR}
+use Rattle.carried.specs.Carried.{returned, RecordRun, onwardR, runsR, freshR, LendsR, AllLendR, CellsHoldR, QueueOrderR, SettlingOrderR, PlainRightR, DependentRightR, sentInR, SeenRightR}
 use Rattle.boundary.specs.Words.{eventOf}
 
 -- a call of the library: by speculation or by blocking, the words of its event, the cells and the room lent to it
@@ -37,4 +37,7 @@ pub record LibraryDemand3 (cs : Cells) : Type 0 where
   pub plain : (calls : List LibraryCall) → AllLendL cs calls → (c : LibraryCall) → LendsR (runsL cs calls) (asCall c) → PlainRightR cs (runsL cs calls) (asCall c)
   pub dependent : (calls : List LibraryCall) → AllLendL cs calls → (c : LibraryCall) → LendsR (runsL cs calls) (asCall c) → (between : List LibraryCall)
       → AllLendR (onwardR (runsL cs calls) (asCall c)) (asCalls between) → (d : LibraryCall) → DependentRightR cs (runsL cs calls) (asCall c) (asCalls between) (asCall d)
+  pub seen : (calls : List LibraryCall) → AllLendL cs calls → (c : LibraryCall) → LendsR (runsL cs calls) (asCall c) → (between : List LibraryCall)
+      → AllLendR (onwardR (runsL cs calls) (asCall c)) (asCalls between) → (d : LibraryCall)
+      → SeenRightR cs (runsL cs calls) (sentInR (freshR cs) (asCalls calls)) (asCall c) (asCalls between) (asCall d)
   pub never : (calls : List LibraryCall) (c : LibraryCall) → returned (runsL cs calls .kept) (asCall c) .number ≡ 1 → ⊥

@@ -120,7 +120,7 @@ pub extern "C" fn harukdalis_call_blocking(
 pub extern "C" fn harukdalis_record_bytes() -> u32
     ensures { λ n. ⌜ n ≡ recordBytes ⌝ }
 {
-    9680
+    9936
 }
 
 // The words of an event.

@@ -18,20 +18,10 @@ use Rattle.model.proofs.Rising.{step-rising}
 use Rattle.record.specs.declared.Record.{Record}
 use Rattle.record.specs.View.{view}
 use Rattle.engine.specs.Called.{stepped, called}
-use Rattle.carried.specs.Carried.{Words, AllWords, returned, roomOf, answerAt, answerOf, RecordRun, onwardR, runsR, freshR, LendsR, AllLendR, settledInR}
-use Rattle.carried.specs.Agreed.{TwinsR, IdleR, answersFrom, answersOf, RecordSchemesAgree}
-use Rattle.carried.proofs.Carrying.{meant, next-view, noAnswer, answer-is, answer-sent, reached, lent, from}
+use Rattle.carried.specs.Carried.{Words, AllWords, returned, answerOf, answersOf, RecordRun, onwardR, runsR, freshR, LendsR, AllLendR, settledInR}
+use Rattle.carried.specs.Agreed.{TwinsR, IdleR, RecordSchemesAgree}
+use Rattle.carried.proofs.Carrying.{meant, next-view, answers-are, answer-sent, reached, lent, from}
 use Rattle.record.proofs.Viewed.{view-count, view-waits}
-
--- the answers read from the room are the model's
-read-all : (room : List ℕ) (i : ℕ) (l : List Answer) → ((k : ℕ) → k < length l → answerAt room (i + k) ≡ getD l k noAnswer) → answersFrom room i (length l) ≡ l
-read-all room i [] h = refl
-read-all room i (a ∷ l) h = λ j. ((let z : i ≡ i + 0 = omega arith in ap (answerAt room) z) ∙ h 0 (omega arith)) j
-    ∷ read-all room (i + 1) l (λ k lt. (let z : i + 1 + k ≡ i + suc k = omega arith in ap (answerAt room) z) ∙ h (suc k) (omega arith)) j
-
-answers-are : (r : Record) (c : Call) → Words (c .event) → answersOf r c ≡ step (view r) c .answers
-unfolding called stepped
-answers-are r c w = read-all (roomOf r c) 0 (step (view r) c .answers) (λ k lt. (let z : 0 + k ≡ k = omega arith in ap (answerAt (roomOf r c)) z) ∙ answer-is r c k w lt)
 
 none-live : (us : List Uncommitted) (ws : List Waiting) (n m : ℕ) → length us ≡ n → length ws ≡ m → n + m ≡ 0 → numbers us ws ≡ []
 none-live [] [] n m u w h = refl

@@ -12,20 +12,20 @@ use Rattle.model.specs.Limits.{mostCells, answerWords}
 use Rattle.model.specs.Operations.{Cells, pick}
 use Rattle.model.specs.Transactions.{Uncommitted, Engine, Answer, answer, words, allWords}
 use Rattle.model.specs.Refusals.{request, sound, Call, Started, refusal, taken, respond, step, start, empty}
-use Rattle.model.specs.Demand.{Run, onward, runs, fresh, Lends, AllLend, liveOf, settledOf, numbersOf, CellsHold, QueueOrder, Rises, SettlingOrder, Gives, PlainRight, NoAbort, DependentRight}
+use Rattle.model.specs.Demand.{Run, onward, runs, fresh, Lends, AllLend, liveOf, settledOf, numbersOf, CellsHold, QueueOrder, Rises, SettlingOrder, Gives, PlainRight, frontAttempt, lastAttempt, sentIn, NoAbort, DependentRight, SeenRight, UndisturbedRight}
 use Rattle.model.specs.Serial.{serial}
 use Rattle.model.proofs.Chain.{all-map}
 use Rattle.model.proofs.Passing.{passed}
 use Rattle.model.proofs.Sound.{sound-parts}
 use Rattle.model.proofs.Kept.{step-keeps, start-sound, fresh-never-one}
-use Rattle.model.proofs.Demanded.{demand3}
+use Rattle.model.proofs.Demanded.{demand3, undisturbed-right}
 use Rattle.record.specs.declared.Record.{Record}
 use Rattle.record.specs.Words.{liveRows}
 use Rattle.record.specs.View.{fragmentAt, waitingOf, numbersFrom, memberAt, uncommittedOf, viewOf, view}
 use Rattle.record.proofs.Rows.{numbers-same, numbers-whole}
 use Rattle.record.proofs.Back.{known-of, view-pack}
 use Rattle.engine.specs.Called.{stepped, nextOf, called, freshOf}
-use Rattle.carried.specs.Carried.{Words, AllWords, returned, answerFrom, answerAt, answerOf, RecordRun, onwardR, runsR, freshR, LendsR, AllLendR, CellsHoldR, SettlingOrderR, PlainRightR, NoAbortR, DependentRightR, RecordDemand3}
+use Rattle.carried.specs.Carried.{Words, AllWords, returned, roomOf, answerFrom, answerAt, answerOf, answersFrom, answersOf, RecordRun, onwardR, runsR, freshR, LendsR, AllLendR, CellsHoldR, SettlingOrderR, PlainRightR, NoAbortR, DependentRightR, sentInR, SeenRightR, UndisturbedRightR, RecordDemand3}
 use Rattle.rows.proofs.Rooms.{length-words}
 use Rattle.carried.proofs.Fine.{Small, Fine, rows-eight, taken-fine}
 use Rattle.record.proofs.Viewed.{First, view-count, view-largest, view-first, view-waiting}
@@ -74,7 +74,7 @@ small-answers r c h = go (refusal (view r) c) refl
 
 answer-same : (l m : List ℕ) (b c : ℕ) → ((k : ℕ) → getD l (b + k) 0 ≡ getD m (c + k) 0) → answerFrom l b ≡ answerFrom m c
 unfolding answerFrom
-answer-same l m b c h = λ i. answer (first i) (h 1 i) (record {
+answer-same l m b c h = λ i. answer (first i) (h 1 i) (h 12 i) (h 13 i) (record {
   place = h 2 i;
   numbers = (ap (numbersFrom l (b + 4)) (h 3) ∙ numbers-same l m (b + 4) (c + 4) (getD m (c + 3) 0) (λ k hk. there k)) i;
 })
@@ -89,7 +89,7 @@ answer-same l m b c h = λ i. answer (first i) (h 1 i) (record {
 
 words-back : (a : Answer) (rest : List ℕ) → Small a → answerFrom (words a ++ rest) 0 ≡ a
 unfolding answerFrom words
-words-back a rest h = λ i. answer (a .number) (a .dependence) (record { place = a .outcome .place; numbers = (numbers-same (words a ++ rest) ns 4 0 (length ns) read ∙ numbers-whole ns) i })
+words-back a rest h = λ i. answer (a .number) (a .dependence) (tail 0 (omega arith) i) (tail 1 (omega arith) i) (record { place = a .outcome .place; numbers = (numbers-same (words a ++ rest) ns 4 0 (length ns) read ∙ numbers-whole ns) i })
   where
     ns : List ℕ
     ns = a .outcome .numbers
@@ -97,16 +97,29 @@ words-back a rest h = λ i. answer (a .number) (a .dependence) (record { place =
     row : List ℕ
     row = take 8 (a .outcome .numbers ++ replicate 8 0)
 
+    last : List ℕ
+    last = a .attempt ∷ a .dependenceAttempt ∷ 0 ∷ 0 ∷ []
+
+    -- what stands behind the eight numbers
+    tail : (k : ℕ) → k < 4 → getD (words a ++ rest) (12 + k) 0 ≡ getD (a .attempt ∷ a .dependenceAttempt ∷ 0 ∷ 0 ∷ []) k 0
+    tail k hk =
+        let eight : length row ≡ 8 = omega (arith, length-take 8 (ns ++ replicate 8 0), length-append ns (replicate 8 0)) in
+        List·getD-append (words a) rest 0 (12 + k) (omega (arith, length-words a))
+        ∙ (let z : 12 + k ≡ 4 + (8 + k) = omega arith in ap (λ (x : ℕ). getD (words a) x 0) z)
+        ∙ getD-append-add (a .number ∷ a .dependence ∷ a .outcome .place ∷ length ns ∷ []) (row ++ last) (8 + k) 0
+        ∙ ap (λ (x : ℕ). getD (row ++ last) (x + k) 0) (sym eight)
+        ∙ getD-append-add row last k 0
+
     read : (k : ℕ) → k < length (a .outcome .numbers) → getD (words a ++ rest) (4 + k) 0 ≡ getD (a .outcome .numbers) (0 + k) 0
     read k hk =
         List·getD-append (words a) rest 0 (4 + k) (omega (arith, length-words a))
-        ∙ getD-append-add (a .number ∷ a .dependence ∷ a .outcome .place ∷ length ns ∷ []) (row ++ replicate 4 0) k 0
-        ∙ List·getD-append row (replicate 4 0) 0 k (omega (arith, length-take 8 (ns ++ replicate 8 0), length-append ns (replicate 8 0)))
+        ∙ getD-append-add (a .number ∷ a .dependence ∷ a .outcome .place ∷ length ns ∷ []) (row ++ last) k 0
+        ∙ List·getD-append row last 0 k (omega (arith, length-take 8 (ns ++ replicate 8 0), length-append ns (replicate 8 0)))
         ∙ getD-take 8 (ns ++ replicate 8 0) k 0 (omega arith) ∙ List·getD-append ns (replicate 8 0) 0 k hk
         ∙ (let z : k ≡ 0 + k = omega arith in ap (λ (x : ℕ). getD ns x 0) z)
 
 abbrev pub noAnswer : Answer
-noAnswer = answer 0 0 (record { place = 0; numbers = [] })
+noAnswer = answer 0 0 0 0 (record { place = 0; numbers = [] })
 
 -- what a filled room holds
 pub room-answer : (l : List Answer) (rest : List ℕ) (i : ℕ) → All Small l → i < length l → answerAt (allWords l ++ rest) i ≡ getD l i noAnswer
@@ -138,6 +151,16 @@ pub answer-sent : (r : Record) (c : Call) (i : ℕ) → Words (c .event) → i <
 unfolding called stepped
 answer-sent r c i h k = subst (λ (a : Answer). List·Memᴰ a (step (view r) c .answers)) (sym (answer-is r c i h k)) (getD-in (step (view r) c .answers) i noAnswer k)
 
+-- the answers read from the room are the model's
+read-all : (room : List ℕ) (i : ℕ) (l : List Answer) → ((k : ℕ) → k < length l → answerAt room (i + k) ≡ getD l k noAnswer) → answersFrom room i (length l) ≡ l
+read-all room i [] h = refl
+read-all room i (a ∷ l) h = λ j. ((let z : i ≡ i + 0 = omega arith in ap (answerAt room) z) ∙ h 0 (omega arith)) j
+    ∷ read-all room (i + 1) l (λ k lt. (let z : i + 1 + k ≡ i + suc k = omega arith in ap (answerAt room) z) ∙ h (suc k) (omega arith)) j
+
+pub answers-are : (r : Record) (c : Call) → Words (c .event) → answersOf r c ≡ step (view r) c .answers
+unfolding called stepped
+answers-are r c w = read-all (roomOf r c) 0 (step (view r) c .answers) (λ k lt. (let z : 0 + k ≡ k = omega arith in ap (answerAt (roomOf r c)) z) ∙ answer-is r c k w lt)
+
 -- Runs
 
 -- the run of the model that a run on records means
@@ -161,6 +184,11 @@ no-abort : (r : RecordRun) (calls : List Call) → AllWords calls → NoAbortR r
 unfolding called stepped
 no-abort r [] w h = tt
 no-abort r (c ∷ calls) w h = (h .0, subst (λ (x : Run). NoAbort x calls) (onward-same r c (w .0)) (no-abort (onwardR r c) calls (w .1) (h .1)))
+
+-- the answers of calls are the model's
+sent-same : (r : RecordRun) (calls : List Call) → AllWords calls → sentInR r calls ≡ sentIn (meant r) calls
+sent-same r [] w = refl
+sent-same r (c ∷ calls) w = λ i. answers-are (r .kept) c (w .0) i ++ (sent-same (onwardR r c) calls (w .1) ∙ ap (λ (x : Run). sentIn x calls) (onward-same r c (w .0))) i
 
 start-rows : (n : ℕ) → All Eight (liveRows (start n .engine .uncommitted) (start n .engine .waiting))
 unfolding start
@@ -224,23 +252,49 @@ module _ (cs : Cells) where
     carried-plain c v k i j z =
         from (λ (r : Run). Lends r c → PlainRight cs r c) (demand3 cs .plain calls (lent calls w l) c) k (answerOf (here .kept) c i) (answer-sent (here .kept) c i v j) z
 
-    carried-dependent : (c : Call) → Words (c .event) → LendsR here c → (between : List Call) → AllWords between → AllLendR (onwardR here c) between → (d : Call)
-        → DependentRightR cs here c between d
-    unfolding called stepped
-    carried-dependent c v k between wb lb d i j z n q ok =
-        subst (λ (r : Run). Gives cs (a .number) (onward r d .log) (a .outcome)) (sym same)
-        (from (λ (r : Run). Lends r c → AllLend (onward r c) between → DependentRight cs r c between d) (λ k′ b. demand3 cs .dependent calls (lent calls w l) c k′ between b d) k
-        (subst (λ (r : Run). AllLend r between) one (all-lend (onwardR here c) between wb lb)) a (answer-sent (here .kept) c i v j) z
-        (subst (λ (r : Run). NoAbort r between) one (no-abort (onwardR here c) between wb n)) q (subst (λ (r : Run). step (r .engine) d .number ≡ 0) same ok))
-      where
-        a : Answer
-        a = answerOf (here .kept) c i
+    -- one more call, and calls after it
+    module _ (c : Call) (v : Words (c .event)) (k : LendsR here c) (between : List Call) (wb : AllWords between) (lb : AllLendR (onwardR here c) between) (d : Call) where
+      one : meant (onwardR here c) ≡ onward (meant here) c
+      one = onward-same here c v
 
-        one : meant (onwardR here c) ≡ onward (meant here) c
-        one = onward-same here c v
+      same : meant (runsR (onwardR here c) between) ≡ runs (onward (meant here) c) between
+      same = runs-same (onwardR here c) between wb ∙ ap (λ (r : Run). runs r between) one
 
-        same : meant (runsR (onwardR here c) between) ≡ runs (onward (meant here) c) between
-        same = runs-same (onwardR here c) between wb ∙ ap (λ (r : Run). runs r between) (onward-same here c v)
+      lends : AllLend (onward (meant here) c) between
+      lends = subst (λ (r : Run). AllLend r between) one (all-lend (onwardR here c) between wb lb)
+
+      accepted : returned (runsR (onwardR here c) between .kept) d .number ≡ 0 → step (runs (onward (meant here) c) between .engine) d .number ≡ 0
+      unfolding called stepped
+      accepted ok = subst (λ (r : Run). step (r .engine) d .number ≡ 0) same ok
+
+      given : (a : Answer) → Gives cs (a .number) (onward (runs (onward (meant here) c) between) d .log) (a .outcome) → Gives cs (a .number) (onwardR (runsR (onwardR here c) between) d .log) (a .outcome)
+      unfolding called stepped
+      given a g = subst (λ (r : Run). Gives cs (a .number) (onward r d .log) (a .outcome)) (sym same) g
+
+      pub carried-dependent : DependentRightR cs here c between d
+      unfolding called stepped
+      carried-dependent i j z q ok e =
+          let a : Answer = answerOf (here .kept) c i in
+          given a
+          (from (λ (r : Run). Lends r c → AllLend (onward r c) between → DependentRight cs r c between d) (λ k′ b. demand3 cs .dependent calls (lent calls w l) c k′ between b d) k lends a (answer-sent (here .kept) c i v j) z q (accepted ok)
+          (ap (λ (r : Run). frontAttempt (r .engine .uncommitted)) (sym same) ∙ e))
+
+      pub carried-seen : SeenRightR cs here (sentInR (freshR cs) calls) c between d
+      unfolding called stepped
+      carried-seen i j z q ok e =
+          let a : Answer = answerOf (here .kept) c i in
+          let past : sentInR (freshR cs) calls ≡ sentIn (fresh cs) calls = sent-same (freshR cs) calls w ∙ ap (λ (r : Run). sentIn r calls) (fresh-same cs) in
+          given a
+          (from (λ (r : Run). Lends r c → AllLend (onward r c) between → SeenRight cs r (sentIn (fresh cs) calls) c between d) (λ k′ b. demand3 cs .seen calls (lent calls w l) c k′ between b d) k lends a (answer-sent (here .kept) c i v j) z q (accepted ok)
+          ((λ t. lastAttempt (a .dependence) 0 (sym past t ++ sym (sent-same here (c ∷ between) (v, wb)) t)) ∙ e))
+
+      pub carried-undisturbed : UndisturbedRightR cs here c between d
+      unfolding called stepped
+      carried-undisturbed i j z n q ok =
+          let a : Answer = answerOf (here .kept) c i in
+          given a
+          (from (λ (r : Run). Lends r c → AllLend (onward r c) between → UndisturbedRight cs r c between d) (λ k′ b. undisturbed-right cs calls (lent calls w l) c k′ between b d) k lends a (answer-sent (here .kept) c i v j) z
+          (subst (λ (r : Run). NoAbort r between) one (no-abort (onwardR here c) between wb n)) q (accepted ok))
 
   carried-never : (calls : List Call) → AllWords calls → (c : Call) → returned (runsR (freshR cs) calls .kept) c .number ≡ 1 → ⊥
   unfolding called stepped
@@ -253,5 +307,11 @@ carried cs = record {
   settling = carried-settling cs;
   plain = carried-plain cs;
   dependent = carried-dependent cs;
+  seen = carried-seen cs;
   never = carried-never cs;
 }
+
+-- 01's form of the last sentence, of records
+pub undisturbed-record : (cs : Cells) (calls : List Call) → AllWords calls → AllLendR (freshR cs) calls → (c : Call) → Words (c .event) → LendsR (runsR (freshR cs) calls) c
+    → (between : List Call) → AllWords between → AllLendR (onwardR (runsR (freshR cs) calls) c) between → (d : Call) → UndisturbedRightR cs (runsR (freshR cs) calls) c between d
+undisturbed-record cs = carried-undisturbed cs

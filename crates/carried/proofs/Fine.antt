@@ -8,7 +8,7 @@ use lib.Dec.{eqb}
 use lib.ListN.{length, length-append, length-take}
 use Rattle.model.specs.Operations.{Cells, operate, put, multi, operations, tells}
 use Rattle.model.specs.Transactions.{Reply, Held, Sent, NoReply, Uncommitted, Waiting, Engine, Answer, answer}
-use Rattle.model.specs.Steps.{undone, noted, Ran, runFrom, run, begun, again, oneCoordinator, nearest, mayTake, Place, placed, Queues, sending, drain, joined, continued, arrived, heldWith, heldBy, sent, released, settled, committed, requeued, aborted}
+use Rattle.model.specs.Steps.{undone, noted, Ran, runFrom, run, begun, again, oneCoordinator, nearest, nearestAttempt, mayTake, Place, placed, Queues, sending, drain, arrival, joined, continued, arrived, heldWith, heldBy, sent, released, settled, committed, requeued, aborted}
 use Rattle.model.specs.Refusals.{Request, Arrive, Commit, Abort, request, taken}
 use Rattle.model.specs.declared.Op.{Op}
 use Rattle.model.specs.declared.Fragment.{Fragment}
@@ -76,8 +76,8 @@ drain-fine σ cs us (w ∷ ws) k e =
     drain-cases Fine σ cs us w ws (λ _. record { uncommitted = k; waiting = e; answers = tt })
     (λ _. sending-fine (p .answers) (p .settles) (drain σ (run (w .fragment) cs [] .cells) (p .uncommitted) ws) (h .1) f)
 
-held-small : (d : ℕ) (u : Uncommitted) → Fit u → All Small (heldWith d u)
-held-small d u h = held-cases (All Small) d u (λ o e. (subst (λ (a : Reply). length (heldOutcome a .numbers) ≤ 8) e h, tt)) (λ _. tt)
+held-small : (d b : ℕ) (u : Uncommitted) → Fit u → All Small (heldWith d b u)
+held-small d b u h = held-cases (All Small) d b u (λ o e. (subst (λ (a : Reply). length (heldOutcome a .numbers) ≤ 8) e h, tt)) (λ _. tt)
 
 released-fine : (ahead us : List Uncommitted) → All Kept us → All Kept (released ahead us .uncommitted) × All Small (released ahead us .answers)
 unfolding released
@@ -85,14 +85,14 @@ released-fine ahead [] k = (tt, tt)
 released-fine ahead (u ∷ us) k =
     let x = released-fine (ahead ++ (u ∷ [])) us (k .1) in
     released-cases (λ (p : Place). All Kept (p .uncommitted) × All Small (p .answers)) ahead u us ((k .0, x .0), x .1)
-    (λ _. (((k .0 .0, omega arith), x .0), all-append Small (heldWith (nearest 0 ahead) u) (released (ahead ++ (u ∷ [])) us .answers) (held-small (nearest 0 ahead) u (k .0 .1)) (x .1)))
+    (λ _. (((k .0 .0, omega arith), x .0), all-append Small (heldWith (nearest 0 ahead) (nearestAttempt 0 ahead) u) (released (ahead ++ (u ∷ [])) us .answers) (held-small (nearest 0 ahead) (nearestAttempt 0 ahead) u (k .0 .1)) (x .1)))
 
 settled-fine : (us : List Uncommitted) → All Kept us → All Kept (settled us .uncommitted) × All Small (settled us .answers)
 unfolding settled
 settled-fine [] k = (tt, tt)
 settled-fine (u ∷ us) k = settled-cases (λ (p : Place). All Kept (p .uncommitted) × All Small (p .answers)) u us
-    (λ _. let x = released-fine (u ∷ []) us (k .1) in (((k .0 .0, omega arith), x .0), all-append Small (heldBy u) (released (u ∷ []) us .answers) (held-small 0 u (k .0 .1)) (x .1)))
-    (λ _. let x = settled-fine us (k .1) in (x .0, all-append Small (heldBy u) (settled us .answers) (held-small 0 u (k .0 .1)) (x .1)))
+    (λ _. let x = released-fine (u ∷ []) us (k .1) in (((k .0 .0, omega arith), x .0), all-append Small (heldBy u) (released (u ∷ []) us .answers) (held-small 0 0 u (k .0 .1)) (x .1)))
+    (λ _. let x = settled-fine us (k .1) in (x .0, all-append Small (heldBy u) (settled us .answers) (held-small 0 0 u (k .0 .1)) (x .1)))
 
 pub rows-eight : (us : List Uncommitted) (ws : List Waiting) → All Kept us → All Eight ws → All Eight (liveRows us ws)
 rows-eight [] ws k e = e
@@ -100,8 +100,7 @@ rows-eight (u ∷ us) ws k e = (k .0 .0, rows-eight us ws (k .1) e)
 
 joined-fine : (σ : Scheme) (n : ℕ) (f : Fragment) (cs : Cells) (us : List Uncommitted) (ws : List Waiting) → length (f .row) ≡ 8 → All Kept us → All Eight ws → Fine (joined σ n f cs us ws)
 joined-fine σ n f cs us ws h k e =
-    let w : Waiting = record { number = n; fragment = f } in
-    drain-fine σ cs us (ws ++ (w ∷ [])) k (all-append Eight ws (w ∷ []) e (h, tt))
+    drain-fine σ cs us (ws ++ (arrival n f ∷ [])) k (all-append Eight ws (arrival n f ∷ []) e (h, tt))
 
 arrived-fine : (σ : Scheme) (n : ℕ) (f : Fragment) (cs : Cells) (us : List Uncommitted) (ws : List Waiting) → length (f .row) ≡ 8 → All Kept us → All Eight ws → Fine (arrived σ n f cs us ws)
 arrived-fine σ n f cs [] ws h k e = joined-fine σ n f cs [] ws h k e
@@ -112,7 +111,7 @@ arrived-fine σ n f cs (u ∷ us) ws h k e = go (eqb (u .number) n)
 
     go : (b : Bool) → Fine (elim b [ false ↦ joined σ n f cs (u ∷ us) ws | true ↦ continued σ f cs u us ws ])
     go false = joined-fine σ n f cs (u ∷ us) ws h k e
-    go true = sending-fine (answer (u .number) 0 (r .outcome) ∷ []) [] (drain σ (r .cells) (again u f r ∷ us) ws) (run-small f cs (u .undo) h, tt)
+    go true = sending-fine (answer (u .number) 0 (u .attempt) 0 (r .outcome) ∷ []) [] (drain σ (r .cells) (again u f r ∷ us) ws) (run-small f cs (u .undo) h, tt)
         (drain-fine σ (r .cells) (again u f r ∷ us) ws ((k .0 .0, omega arith), k .1) e)
 
 committed-fine : (σ : Scheme) (cs : Cells) (us : List Uncommitted) (ws : List Waiting) → All Kept us → All Eight ws → Fine (committed σ cs us ws)
@@ -121,9 +120,13 @@ committed-fine σ cs (u ∷ us) ws k e =
     let x = settled-fine us (k .1) in
     sending-fine (settled us .answers) (u .number ∷ settled us .settles) (drain σ cs (settled us .uncommitted) ws) (x .1) (drain-fine σ cs (settled us .uncommitted) ws (x .0) e)
 
+requeued-eight : (us : List Uncommitted) (ws : List Waiting) → All Kept us → All Eight ws → All Eight (map requeued us ++ ws)
+requeued-eight [] ws k e = e
+requeued-eight (u ∷ us) ws k e = (k .0 .0, requeued-eight us ws (k .1) e)
+
 aborted-fine : (σ : Scheme) (cs : Cells) (us : List Uncommitted) (ws : List Waiting) → All Kept us → All Eight ws → Fine (aborted σ cs us ws)
 aborted-fine σ cs [] ws k e = record { uncommitted = tt; waiting = e; answers = tt }
-aborted-fine σ cs (u ∷ us) ws k e = drain-fine σ _ [] (map requeued us ++ ws) tt (rows-eight us ws (k .1) e)
+aborted-fine σ cs (u ∷ us) ws k e = drain-fine σ _ [] (map requeued us ++ ws) tt (requeued-eight us ws (k .1) e)
 
 -- an accepted request
 pub taken-fine : (σ : Scheme) (v : Event) (e : Engine) (cs : Cells) → Words v → All Kept (e .uncommitted) → All Eight (e .waiting) → Fine (taken σ (request v) e cs)

@@ -1,15 +1,14 @@
 -- Request L5 of runs on records, words and rooms: two sequences of calls that are asked the same, whatever the scheme of each call. The model says
 -- it of its own runs (`SchemesAgree`).
-use Prim.Native.Nat.{ℕ, zero, suc, _+_}
+use Prim.Native.Nat.{_+_}
 use mathlib.Core.Path.{_≡_}
-use mathlib.Core.List.{List, [], _∷_}
+use mathlib.Core.List.{List}
 use Rattle.model.specs.Operations.{Cells}
-use Rattle.model.specs.Transactions.{Answer}
 use Rattle.model.specs.Refusals.{Call}
 use Rattle.model.specs.Demand.{settledOf}
 use Rattle.model.specs.Schemes.{Alike, AllAlike, ofSingles}
 use Rattle.record.specs.declared.Record.{Record}
-use Rattle.carried.specs.Carried.{Words, AllWords, returned, roomOf, answerAt, RecordRun, onwardR, runsR, freshR, LendsR, AllLendR, settledInR}
+use Rattle.carried.specs.Carried.{Words, AllWords, returned, answersOf, RecordRun, onwardR, runsR, freshR, LendsR, AllLendR, settledInR}
 
 pub record TwinsR (cs : Cells) (calls calls′ : List Call) : Type 0 where
   pub alike : AllAlike calls calls′
@@ -22,15 +21,6 @@ pub record TwinsR (cs : Cells) (calls calls′ : List Call) : Type 0 where
 abbrev pub IdleR : RecordRun → Type 0
 IdleR r = r .kept .counts .uncommitted + r .kept .counts .waiting ≡ 0
 
--- n answers of a room, from the i-th on
-abbrev pub answersFrom : List ℕ → ℕ → ℕ → List Answer
-answersFrom room i zero = []
-answersFrom room i (suc n) = answerAt room i ∷ answersFrom room (i + 1) n
-
--- all answers of a call, read from its room
-abbrev pub answersOf : Record → Call → List Answer
-answersOf r c = answersFrom (roomOf r c) 0 (returned r c .answers)
-
 pub record RecordSchemesAgree (cs : Cells) : Type 0 where
   -- "both engines return the same numbers"
   pub numbers : (calls calls′ : List Call) → TwinsR cs calls calls′ → (c c′ : Call) → Alike c c′
@@ -41,7 +31,7 @@ pub record RecordSchemesAgree (cs : Cells) : Type 0 where
   pub recorded : (calls calls′ : List Call) → TwinsR cs calls calls′ → settledInR (runsR (freshR cs) calls) ≡ settledInR (runsR (freshR cs) calls′)
   -- "and hold equal cells whenever nothing is live"
   pub cells : (calls calls′ : List Call) → TwinsR cs calls calls′ → IdleR (runsR (freshR cs) calls) → runsR (freshR cs) calls .cells ≡ runsR (freshR cs) calls′ .cells
-  -- "Singles get the same answers": in the same call, in the same order
+  -- "Singles get the same answers, attempts aside.": in the same call, in the same order
   pub singles : (calls calls′ : List Call) → TwinsR cs calls calls′ → (c c′ : Call) → Alike c c′ → Words (c .event) → Words (c′ .event)
       → LendsR (runsR (freshR cs) calls) c → LendsR (runsR (freshR cs) calls′) c′
       → ofSingles (onwardR (runsR (freshR cs) calls) c .log) (answersOf (runsR (freshR cs) calls .kept) c)

@@ -1,6 +1,6 @@
 -- Demand 3 of runs on records, words and rooms: each call is given the record that the last one returned, and what it returns is what the
 -- contract of `call` says, `called`, `cellsAfter` and `roomAfter`. The log is the model's: it is read off the events and the returned numbers.
-use Prim.Native.Nat.{ℕ, _+_, _*_, _≤_, _<_}
+use Prim.Native.Nat.{ℕ, zero, suc, _+_, _*_, _≤_, _<_}
 use mathlib.Core.Path.{_≡_}
 use mathlib.Core.List.{List, [], _∷_, _++_}
 use lib.ListN.{length, take, getD}
@@ -9,7 +9,7 @@ use Rattle.model.specs.Operations.{Cells}
 use Rattle.model.specs.Transactions.{Answer, answer, numbers}
 use Rattle.model.specs.Refusals.{Abort, Commit, request, Call, settlesBy}
 use Rattle.model.specs.Serial.{Tx, serial}
-use Rattle.model.specs.Demand.{Log, noticed, settledOf, liveOf, settledBy, numbersOf, Rises, Gives}
+use Rattle.model.specs.Demand.{Log, noticed, settledOf, liveOf, settledBy, numbersOf, Rises, Gives, frontAttempt, lastAttempt}
 use Rattle.model.specs.Demand as Demand
 use Rattle.model.specs.declared.Event.{Event}
 use Rattle.record.specs.declared.Record.{Record}
@@ -32,9 +32,9 @@ returned r c = called (c .scheme) r (c .event) (c .lent) (c .room)
 abbrev pub roomOf : Record → Call → List ℕ
 roomOf r c = roomAfter (c .scheme) r (c .event) (c .lent) (c .room)
 
--- the answer whose 16 words start at b: transaction, dependence, place, count, numbers
+-- the answer whose 16 words start at b: transaction, dependence, place, count, eight numbers, and the attempts of both (02, L2)
 unfoldable pub answerFrom : List ℕ → ℕ → Answer
-answerFrom l b = answer (getD l b 0) (getD l (b + 1) 0) (record { place = getD l (b + 2) 0; numbers = numbersFrom l (b + 4) (getD l (b + 3) 0) })
+answerFrom l b = answer (getD l b 0) (getD l (b + 1) 0) (getD l (b + 12) 0) (getD l (b + 13) 0) (record { place = getD l (b + 2) 0; numbers = numbersFrom l (b + 4) (getD l (b + 3) 0) })
 
 abbrev pub answerAt : List ℕ → ℕ → Answer
 answerAt room i = answerFrom room (answerWords * i)
@@ -42,6 +42,15 @@ answerAt room i = answerFrom room (answerWords * i)
 -- the i-th answer of a call, read from its room
 abbrev pub answerOf : Record → Call → ℕ → Answer
 answerOf r c i = answerAt (roomOf r c) i
+
+-- n answers of a room, from the i-th on
+abbrev pub answersFrom : List ℕ → ℕ → ℕ → List Answer
+answersFrom room i zero = []
+answersFrom room i (suc n) = answerAt room i ∷ answersFrom room (i + 1) n
+
+-- all answers of a call, read from its room
+abbrev pub answersOf : Record → Call → List Answer
+answersOf r c = answersFrom (roomOf r c) 0 (returned r c .answers)
 
 -- a sequence of calls: the record, the cells that the caller keeps, and the log
 pub record RecordRun : Type 0 where
@@ -101,13 +110,36 @@ PlainRightR cs r c =
     (i : ℕ) → i < returned (r .kept) c .answers → answerOf (r .kept) c i .dependence ≡ 0
     → Gives cs (answerOf (r .kept) c i .number) (onwardR r c .log) (answerOf (r .kept) c i .outcome)
 
+-- The last sentence, as 02's L2 has it: "right if D commits in that very attempt". c sends the answer, `between` are the calls after it, d commits what it
+-- depends on. By the attempt that the record has of its front
+abbrev pub DependentRightR : Cells → RecordRun → Call → List Call → Call → Type 0
+DependentRightR cs r c between d =
+    (i : ℕ) → i < returned (r .kept) c .answers → (answerOf (r .kept) c i .dependence ≡ 0 → ⊥)
+    → request (d .event) ≡ Commit (answerOf (r .kept) c i .dependence)
+    → returned (runsR (onwardR r c) between .kept) d .number ≡ 0
+    → frontAttempt (view (runsR (onwardR r c) between .kept) .uncommitted) ≡ answerOf (r .kept) c i .dependenceAttempt
+    → Gives cs (answerOf (r .kept) c i .number) (onwardR (runsR (onwardR r c) between) d .log) (answerOf (r .kept) c i .outcome)
+
+-- and by the rooms alone: all answers that calls send, in the order in which they are sent, and past those before c
+abbrev pub sentInR : RecordRun → List Call → List Answer
+sentInR r [] = []
+sentInR r (c ∷ calls) = answersOf (r .kept) c ++ sentInR (onwardR r c) calls
+
+abbrev pub SeenRightR : Cells → RecordRun → List Answer → Call → List Call → Call → Type 0
+SeenRightR cs r past c between d =
+    (i : ℕ) → i < returned (r .kept) c .answers → (answerOf (r .kept) c i .dependence ≡ 0 → ⊥)
+    → request (d .event) ≡ Commit (answerOf (r .kept) c i .dependence)
+    → returned (runsR (onwardR r c) between .kept) d .number ≡ 0
+    → lastAttempt (answerOf (r .kept) c i .dependence) 0 (past ++ sentInR r (c ∷ between)) ≡ answerOf (r .kept) c i .dependenceAttempt
+    → Gives cs (answerOf (r .kept) c i .number) (onwardR (runsR (onwardR r c) between) d .log) (answerOf (r .kept) c i .outcome)
+
+-- What 01 says of it holds too (`undisturbed-record`): no abort was accepted in between
 abbrev pub NoAbortR : RecordRun → List Call → Type 0
 NoAbortR r [] = Unit {0}
 NoAbortR r (c ∷ calls) = (returned (r .kept) c .number ≡ 0 → (n : ℕ) → request (c .event) ≡ Abort n → ⊥) × NoAbortR (onwardR r c) calls
 
--- c sends the answer, `between` are the calls after it, d commits what it depends on
-abbrev pub DependentRightR : Cells → RecordRun → Call → List Call → Call → Type 0
-DependentRightR cs r c between d =
+abbrev pub UndisturbedRightR : Cells → RecordRun → Call → List Call → Call → Type 0
+UndisturbedRightR cs r c between d =
     (i : ℕ) → i < returned (r .kept) c .answers → (answerOf (r .kept) c i .dependence ≡ 0 → ⊥)
     → NoAbortR (onwardR r c) between
     → request (d .event) ≡ Commit (answerOf (r .kept) c i .dependence)
@@ -125,6 +157,9 @@ pub record RecordDemand3 (cs : Cells) : Type 0 where
   pub dependent : (calls : List Call) → AllWords calls → AllLendR (freshR cs) calls → (c : Call) → Words (c .event) → LendsR (runsR (freshR cs) calls) c
       → (between : List Call) → AllWords between → AllLendR (onwardR (runsR (freshR cs) calls) c) between → (d : Call)
       → DependentRightR cs (runsR (freshR cs) calls) c between d
+  pub seen : (calls : List Call) → AllWords calls → AllLendR (freshR cs) calls → (c : Call) → Words (c .event) → LendsR (runsR (freshR cs) calls) c
+      → (between : List Call) → AllWords between → AllLendR (onwardR (runsR (freshR cs) calls) c) between → (d : Call)
+      → SeenRightR cs (runsR (freshR cs) calls) (sentInR (freshR cs) calls) c between d
   pub never : (calls : List Call) → AllWords calls → (c : Call) → returned (runsR (freshR cs) calls .kept) c .number ≡ 1 → ⊥
 
 -- "a record with 0 cells, which every later call with enough room refuses by 3": after a refused start with n cells and any calls, whatever they were lent

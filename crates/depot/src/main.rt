@@ -8,7 +8,7 @@ use model::Op;
 use record::Counts;
 use record::Record;
 
-// What a case changes in the record of `base`: a word at a place, and one more. Place 2420 is none.
+// What a case changes in the record of `base`: a word at a place, and one more. Place 2484 is none.
 struct Change {
     place: u32,
     word: u32,
@@ -16,13 +16,13 @@ struct Change {
     word_too: u32,
 }
 
-// First 39 unsound records, by the clauses of refusal 1; then 24 odd ones that no run leaves and that are sound.
-const CASES: [Change; 63] = [
+// First 47 unsound records, by the clauses of refusal 1; then 28 odd ones that no run leaves and that are sound.
+const CASES: [Change; 75] = [
     // a cell count above 4,096
     Change {
         place: 0,
         word: 4097,
-        place_too: 2420,
+        place_too: 2484,
         word_too: 0,
     },
     // 17 uncommitted
@@ -36,7 +36,7 @@ const CASES: [Change; 63] = [
     Change {
         place: 3,
         word: 61,
-        place_too: 2420,
+        place_too: 2484,
         word_too: 0,
     },
     // counts that overflow
@@ -48,107 +48,107 @@ const CASES: [Change; 63] = [
     },
     // nine fragments run
     Change {
-        place: 1796,
+        place: 1860,
         word: 9,
-        place_too: 2420,
+        place_too: 2484,
         word_too: 0,
     },
     // 185 undo entries
     Change {
-        place: 1799,
+        place: 1863,
         word: 185,
-        place_too: 2420,
+        place_too: 2484,
         word_too: 0,
     },
     // a live number 0
     Change {
         place: 4,
         word: 0,
-        place_too: 2420,
+        place_too: 2484,
         word_too: 0,
     },
     // numbers not rising
     Change {
-        place: 32,
+        place: 33,
         word: 3,
-        place_too: 2420,
+        place_too: 2484,
         word_too: 0,
     },
     // a number above the largest
     Change {
-        place: 144,
+        place: 149,
         word: 13,
-        place_too: 2420,
+        place_too: 2484,
         word_too: 0,
     },
     // a stored fragment that 4 refuses, by a flag
     Change {
-        place: 117,
+        place: 121,
         word: 4,
-        place_too: 2420,
+        place_too: 2484,
         word_too: 0,
     },
     // the same by a code
     Change {
-        place: 120,
+        place: 124,
         word: 9,
-        place_too: 2420,
+        place_too: 2484,
         word_too: 0,
     },
     // by an amount of a read
     Change {
-        place: 122,
+        place: 126,
         word: 1,
-        place_too: 2420,
+        place_too: 2484,
         word_too: 0,
     },
     // by a word in an unused place
     Change {
-        place: 129,
+        place: 133,
         word: 1,
-        place_too: 2420,
+        place_too: 2484,
         word_too: 0,
     },
     // by no operation
     Change {
-        place: 119,
+        place: 123,
         word: 0,
-        place_too: 2420,
+        place_too: 2484,
         word_too: 0,
     },
     // by a single with a coordinator
     Change {
-        place: 34,
+        place: 35,
         word: 1,
-        place_too: 2420,
+        place_too: 2484,
         word_too: 0,
     },
     // by a multi with none
     Change {
-        place: 62,
+        place: 64,
         word: 0,
-        place_too: 2420,
+        place_too: 2484,
         word_too: 0,
     },
     // a stored fragment that 5 refuses
     Change {
-        place: 149,
+        place: 154,
         word: 4,
-        place_too: 2420,
+        place_too: 2484,
         word_too: 0,
     },
     // no fragment run
     Change {
-        place: 1828,
+        place: 1892,
         word: 0,
-        place_too: 1831,
+        place_too: 1895,
         word_too: 0,
     },
     // one behind the front with two runs
     Change {
-        place: 1828,
+        place: 1892,
         word: 2,
-        place_too: 2420,
+        place_too: 2484,
         word_too: 0,
     },
     // a front that is a single
@@ -160,177 +160,233 @@ const CASES: [Change; 63] = [
     },
     // a front that holds its answer
     Change {
-        place: 1798,
+        place: 1862,
         word: 1,
-        place_too: 2420,
+        place_too: 2484,
         word_too: 0,
     },
     // a single whose answer is not held
     Change {
-        place: 1814,
+        place: 1878,
         word: 0,
-        place_too: 2420,
+        place_too: 2484,
         word_too: 0,
     },
     // an unfinished one that is not the last
     Change {
-        place: 1813,
+        place: 1877,
         word: 0,
-        place_too: 2420,
+        place_too: 2484,
         word_too: 0,
     },
     // nine held numbers
     Change {
-        place: 1817,
+        place: 1881,
         word: 9,
-        place_too: 2420,
+        place_too: 2484,
         word_too: 0,
     },
     // a held place 9
     Change {
-        place: 1848,
+        place: 1912,
         word: 9,
-        place_too: 2420,
+        place_too: 2484,
         word_too: 0,
     },
     // an undo cell outside
     Change {
-        place: 2062,
+        place: 2126,
         word: 4,
-        place_too: 2420,
+        place_too: 2484,
         word_too: 0,
     },
     // 17 entries of two fragments
     Change {
-        place: 1799,
+        place: 1863,
         word: 17,
-        place_too: 2420,
+        place_too: 2484,
         word_too: 0,
     },
     // nine entries of one
     Change {
-        place: 1847,
+        place: 1911,
         word: 9,
-        place_too: 2420,
+        place_too: 2484,
         word_too: 0,
     },
     // a state that stands for nothing
     Change {
-        place: 1845,
+        place: 1909,
         word: 3,
-        place_too: 2420,
+        place_too: 2484,
         word_too: 0,
     },
     // a reply that stands for nothing
     Change {
-        place: 1846,
+        place: 1910,
         word: 2,
-        place_too: 2420,
+        place_too: 2484,
         word_too: 0,
     },
     // 65 entries of eight fragments
     Change {
-        place: 1796,
+        place: 1860,
         word: 8,
-        place_too: 1799,
+        place_too: 1863,
         word_too: 65,
     },
     // a largest below a live number
     Change {
         place: 1,
         word: 11,
-        place_too: 2420,
+        place_too: 2484,
         word_too: 0,
     },
     // a stored fragment that 4 refuses, by an unknown flag alone
     Change {
-        place: 117,
+        place: 121,
         word: 6,
-        place_too: 2420,
+        place_too: 2484,
         word_too: 0,
     },
     // by a single that is not last
     Change {
-        place: 117,
+        place: 121,
         word: 0,
-        place_too: 2420,
+        place_too: 2484,
         word_too: 0,
     },
     // by code 0
     Change {
-        place: 120,
+        place: 124,
         word: 0,
-        place_too: 2420,
+        place_too: 2484,
         word_too: 0,
     },
     // by a multi with coordinator 256
     Change {
-        place: 62,
+        place: 64,
         word: 256,
-        place_too: 2420,
+        place_too: 2484,
         word_too: 0,
     },
     // by a cell in an unused place
     Change {
-        place: 130,
+        place: 134,
         word: 1,
-        place_too: 2420,
+        place_too: 2484,
         word_too: 0,
     },
     // by an amount in an unused place
     Change {
-        place: 131,
+        place: 135,
         word: 1,
-        place_too: 2420,
+        place_too: 2484,
         word_too: 0,
     },
     // stored fragments that 5 refuses, by the count of cells
     Change {
         place: 0,
         word: 3,
-        place_too: 2420,
+        place_too: 2484,
+        word_too: 0,
+    },
+    // an attempt 0 of the front
+    Change {
+        place: 32,
+        word: 0,
+        place_too: 2484,
+        word_too: 0,
+    },
+    // of one behind it
+    Change {
+        place: 61,
+        word: 0,
+        place_too: 2484,
+        word_too: 0,
+    },
+    // of one that waits
+    Change {
+        place: 148,
+        word: 0,
+        place_too: 2484,
+        word_too: 0,
+    },
+    // an attempt 65 of the front
+    Change {
+        place: 32,
+        word: 65,
+        place_too: 2484,
+        word_too: 0,
+    },
+    // an attempt 64 with one ahead
+    Change {
+        place: 61,
+        word: 64,
+        place_too: 2484,
+        word_too: 0,
+    },
+    // 61 with four ahead, of one that waits
+    Change {
+        place: 148,
+        word: 61,
+        place_too: 2484,
+        word_too: 0,
+    },
+    // 60 with five ahead, of the last
+    Change {
+        place: 177,
+        word: 60,
+        place_too: 2484,
+        word_too: 0,
+    },
+    // an attempt that overflows with those ahead
+    Change {
+        place: 177,
+        word: 4294967295,
+        place_too: 2484,
         word_too: 0,
     },
     // nothing odd
     Change {
-        place: 2420,
+        place: 2484,
         word: 0,
-        place_too: 2420,
+        place_too: 2484,
         word_too: 0,
     },
     // the largest is TOP
     Change {
         place: 1,
         word: 4294967295,
-        place_too: 2420,
+        place_too: 2484,
         word_too: 0,
     },
     // eight fragments run
     Change {
-        place: 1796,
+        place: 1860,
         word: 8,
-        place_too: 2420,
+        place_too: 2484,
         word_too: 0,
     },
     // no entries
     Change {
-        place: 1799,
+        place: 1863,
         word: 0,
-        place_too: 1815,
+        place_too: 1879,
         word_too: 0,
     },
     // failed ones that own entries
     Change {
-        place: 1813,
+        place: 1877,
         word: 2,
-        place_too: 1845,
+        place_too: 1909,
         word_too: 2,
     },
     // finished without a last fragment
     Change {
-        place: 1845,
+        place: 1909,
         word: 1,
-        place_too: 2420,
+        place_too: 2484,
         word_too: 0,
     },
     // nothing uncommitted, six wait
@@ -349,115 +405,143 @@ const CASES: [Change; 63] = [
     },
     // a held place and numbers
     Change {
-        place: 1816,
+        place: 1880,
         word: 8,
-        place_too: 1817,
+        place_too: 1881,
         word_too: 8,
     },
     // a held answer with none
     Change {
-        place: 1817,
+        place: 1881,
         word: 0,
-        place_too: 2420,
+        place_too: 2484,
         word_too: 0,
     },
     // garbage behind the live ones and the runs
     Change {
-        place: 172,
+        place: 178,
         word: 1,
-        place_too: 1860,
+        place_too: 1924,
         word_too: 4294967295,
     },
     // garbage behind the entries
     Change {
-        place: 2064,
+        place: 2128,
         word: 4294967295,
-        place_too: 2419,
+        place_too: 2483,
         word_too: 1,
     },
     // garbage in held numbers
     Change {
-        place: 1820,
+        place: 1884,
         word: 77,
-        place_too: 1826,
+        place_too: 1890,
         word_too: 4294967295,
     },
     // garbage of an answer that was sent
     Change {
-        place: 1800,
+        place: 1864,
         word: 9,
-        place_too: 1801,
+        place_too: 1865,
         word_too: 9,
     },
     // 4,096 cells
     Change {
         place: 0,
         word: 4096,
-        place_too: 2420,
+        place_too: 2484,
         word_too: 0,
     },
     // the least number
     Change {
         place: 4,
         word: 1,
-        place_too: 2420,
+        place_too: 2484,
         word_too: 0,
     },
     // a number just above the one before
     Change {
-        place: 32,
+        place: 33,
         word: 4,
-        place_too: 2420,
+        place_too: 2484,
         word_too: 0,
     },
     // 16 entries of two fragments
     Change {
-        place: 1799,
+        place: 1863,
         word: 16,
-        place_too: 2420,
+        place_too: 2484,
         word_too: 0,
     },
     // 64 entries of eight
     Change {
-        place: 1796,
+        place: 1860,
         word: 8,
-        place_too: 1799,
+        place_too: 1863,
         word_too: 64,
     },
     // eight entries of one
     Change {
-        place: 1847,
+        place: 1911,
         word: 8,
-        place_too: 2420,
+        place_too: 2484,
         word_too: 0,
     },
     // code 8 in one that waits
     Change {
-        place: 120,
+        place: 124,
         word: 8,
-        place_too: 2420,
+        place_too: 2484,
         word_too: 0,
     },
     // coordinator 255
     Change {
-        place: 62,
+        place: 64,
         word: 255,
-        place_too: 2420,
+        place_too: 2484,
         word_too: 0,
     },
     // the last cell in one that waits
     Change {
-        place: 149,
+        place: 154,
         word: 3,
-        place_too: 2420,
+        place_too: 2484,
         word_too: 0,
     },
     // both flags in one that waits
     Change {
-        place: 117,
+        place: 121,
         word: 3,
-        place_too: 118,
+        place_too: 122,
         word_too: 1,
+    },
+    // an attempt 64 of the front
+    Change {
+        place: 32,
+        word: 64,
+        place_too: 2484,
+        word_too: 0,
+    },
+    // 63 with one ahead, and 60 with four
+    Change {
+        place: 61,
+        word: 63,
+        place_too: 148,
+        word_too: 60,
+    },
+    // 62 with two ahead, and 59 with five
+    Change {
+        place: 90,
+        word: 62,
+        place_too: 177,
+        word_too: 59,
+    },
+    // garbage in the attempts behind the live ones
+    Change {
+        place: 206,
+        word: 65,
+        place_too: 1859,
+        word_too: 4294967295,
     },
 ];
 
@@ -569,14 +653,14 @@ fn put_from(row: &mut [u32], from: u32, place: u32, word: u32) {
     }
 }
 
-// The record with one word changed: its four counts are places 0 to 3, then its rows follow. Place 2420 is none.
+// The record with one word changed: its four counts are places 0 to 3, then its rows follow. Place 2484 is none.
 fn changed(r: Record, place: u32, word: u32) -> Record {
     let mut live = r.live;
     let mut runs = r.runs;
     let mut undo = r.undo;
     put_from(&mut live, 4, place, word);
-    put_from(&mut runs, 1796, place, word);
-    put_from(&mut undo, 2052, place, word);
+    put_from(&mut runs, 1860, place, word);
+    put_from(&mut undo, 2116, place, word);
     let counts = Counts {
         cells: count_with(place, 0, word, r.counts.cells),
         largest: count_with(place, 1, word, r.counts.largest),
@@ -656,10 +740,10 @@ fn try_case(
     cells: &mut [u32],
     room: &mut [u32],
 ) -> u32
-    requires { ⌜ i < 63 ⌝ }
+    requires { ⌜ i < 75 ⌝ }
 {
     let c = CASES[i];
-    if i < 39 {
+    if i < 47 {
         return try_call(
             out,
             at,
@@ -670,13 +754,13 @@ fn try_case(
             room,
         );
     }
-    decide_both(out, at, i as u32 - 38, case(r, c), cells, room)
+    decide_both(out, at, i as u32 - 46, case(r, c), cells, room)
 }
 
 fn cases(out: &mut [u8], r: Record, cells: &mut [u32], room: &mut [u32]) -> u32 {
     let mut at: u32 = 0;
     let mut i: usize = 0;
-    while i < 63 {
+    while i < 75 {
         at = try_case(out, at, i, r, cells, room);
         i = i + 1;
     }

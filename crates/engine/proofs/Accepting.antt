@@ -8,10 +8,10 @@ use mathlib.Core.List.{List, [], _∷_, _++_, append-assoc, append-nil, map}
 use lib.Dec.{eqb, leb}
 use lib.ListN.{length, getD, length-append, length-map}
 use lib.Seq.{sets}
-use Rattle.model.specs.Limits.{mostLive, mostFragments}
+use Rattle.model.specs.Limits.{TOP, mostLive, mostFragments}
 use Rattle.model.specs.Operations.{Cells}
-use Rattle.model.specs.Transactions.{finished, Uncommitted, Waiting, Engine, Answer, answer, front}
-use Rattle.model.specs.Steps.{Queues, sending, arrived, joined, continued, committed, aborted, settled, again, requeued, run}
+use Rattle.model.specs.Transactions.{finished, Uncommitted, Waiting, Engine, Answer, answer, attempts, front}
+use Rattle.model.specs.Steps.{Queues, sending, arrival, arrived, joined, continued, committed, aborted, settled, again, requeued, run}
 use Rattle.model.specs.Steps as Steps
 use Rattle.model.specs.Refusals.{rows, firstOf, refusal, Request, Arrive, Commit, Abort, request, Call, live, new, isFront, sound, storable, taken}
 use Rattle.model.specs.declared.Event.{Event}
@@ -31,7 +31,7 @@ use Rattle.refusals.specs.Rest.{callOf, frontIs, behindFirst}
 use Rattle.engine.specs.declared.course.Course.{Course}
 use Rattle.engine.specs.Work.{waitingMore, Work, Left, Small, Fair, Drained, Committed, Aborted, Continued}
 use Rattle.engine.specs.Ready.{Ready, Begun}
-use Rattle.model.specs.Parts.{All, Sound}
+use Rattle.model.specs.Parts.{All, Ahead, Sound}
 use Rattle.record.specs.Fitting.{Eight}
 use Rattle.record.specs.Widths.{liveWidth, liveLength}
 
@@ -77,12 +77,17 @@ module _ (σ : Scheme) (live₀ runs undo room : List ℕ) (cells : Cells) (c : 
 
 -- Abort
 
-begun-aborted : (σ : Scheme) (live runs undo room runs′ undo′ : List ℕ) (cells cells′ : Cells) (c c′ : Course) (ct top : ℕ) (us : List Uncommitted) (ws : List Waiting) (n : ℕ) → Work live runs undo room c [] us ws [] room → Sound ct top us ws
-    → front (λ (u : Uncommitted). eqb (u .number) n) us ≡ true → Aborted runs undo cells c runs′ undo′ cells′ c′ → c′ .first + c′ .counts .uncommitted + c′ .counts .waiting ≤ 64
-    → Begun σ live runs′ undo′ room cells′ c′ room (aborted σ cells us ws)
-begun-aborted σ live runs undo room runs′ undo′ cells cells′ c c′ ct top [] ws n w s h ab k = absurd (true≢false (sym h))
-begun-aborted σ live runs undo room runs′ undo′ cells cells′ c c′ ct top (u ∷ us) ws n w s h ab k =
-    let a = ab live room [] u us ws [] room w (known-of ct (u ∷ us) (s .each)) in
+-- "attempt plus transactions ahead at most 64": one more fits a word
+few-tried : (i : ℕ) (us : List Uncommitted) (ws : List Waiting) → Ahead i (attempts us ws) → All (λ (u : Uncommitted). u .attempt < TOP) us
+few-tried i [] ws h = tt
+few-tried i (u ∷ us) ws h = (omega (arith, h .0), few-tried (1 + i) us ws (h .1))
+
+begun-aborted : (σ : Scheme) (live runs undo room live′ runs′ undo′ : List ℕ) (cells cells′ : Cells) (c c′ : Course) (ct top : ℕ) (us : List Uncommitted) (ws : List Waiting) (n : ℕ) → Work live runs undo room c [] us ws [] room → Sound ct top us ws
+    → front (λ (u : Uncommitted). eqb (u .number) n) us ≡ true → Aborted live runs undo cells c live′ runs′ undo′ cells′ c′ → c′ .first + c′ .counts .uncommitted + c′ .counts .waiting ≤ 64
+    → Begun σ live′ runs′ undo′ room cells′ c′ room (aborted σ cells us ws)
+begun-aborted σ live runs undo room live′ runs′ undo′ cells cells′ c c′ ct top [] ws n w s h ab k = absurd (true≢false (sym h))
+begun-aborted σ live runs undo room live′ runs′ undo′ cells cells′ c c′ ct top (u ∷ us) ws n w s h ab k =
+    let a = ab room [] u us ws [] room w (known-of ct (u ∷ us) (s .each)) (few-tried 1 us ws (s .ahead .1)) in
     let sd : Sound ct top [] (map requeued us ++ ws) = aborted-sound ct top ws cells u us s in
     record {
       ct = ct;
@@ -94,7 +99,7 @@ begun-aborted σ live runs undo room runs′ undo′ cells cells′ c c′ ct to
       names = [];
       work = a .0;
       sound = sd;
-      small = small-of live runs′ undo′ room c′ (rowOf u ∷ []) [] (map requeued us ++ ws) [] room ct top (a .0) sd k (omega (arith, sd .sixtyFour));
+      small = small-of live′ runs′ undo′ room c′ (rowOf u ∷ []) [] (map requeued us ++ ws) [] room ct top (a .0) sd k (omega (arith, sd .sixtyFour));
       rest = ap (λ (x : Cells). sending [] [] (Steps.drain σ x [] (map requeued us ++ ws))) (a .1);
     }
 
@@ -134,7 +139,7 @@ begun-continued σ live runs undo room runs′ undo′ room′ cells cells′ c 
     go [] w s z =
         let a = cn [] u ws [] room w (known-of ct (u ∷ []) (s .each) .0) few eight (s .each .0 .few) in
         let sd : Sound ct top (again u f (run f cells (u .undo)) ∷ []) ws = continued-sound ct top ws cells u f s st few in
-        let x : List Answer = answer (u .number) 0 (run f cells (u .undo) .outcome) ∷ [] in
+        let x : List Answer = answer (u .number) 0 (u .attempt) 0 (run f cells (u .undo) .outcome) ∷ [] in
         record {
           ct = ct;
           top = top;
@@ -153,20 +158,20 @@ begun-continued σ live runs undo room runs′ undo′ room′ cells cells′ c 
 
 begun-joined : (σ : Scheme) (live live′ runs undo room : List ℕ) (cells : Cells) (c c′ : Course) (n : ℕ) (f : Fragment) (ct top : ℕ) (us : List Uncommitted) (ws : List Waiting)
     → Work live runs undo room c [] us ws [] room → Sound ct top us ws → top < n → storable ct f ≡ true → length us + length ws < mostLive → length (f .row) ≡ 8
-    → live′ ≡ sets live (liveWidth * (c .first + c .counts .uncommitted + c .counts .waiting)) (rowWords n f) → c′ ≡ waitingMore c
+    → live′ ≡ sets live (liveWidth * (c .first + c .counts .uncommitted + c .counts .waiting)) (rowWords n 1 f) → c′ ≡ waitingMore c
     → Begun σ live′ runs undo room cells c′ room (joined σ n f cells us ws)
 unfolding allRows
 begun-joined σ live live′ runs undo room cells c c′ n f ct top us ws w s k st few eight el ec =
-    let x : Waiting = record { number = n; fragment = f } in
+    let x : Waiting = arrival n f in
     let old : List Waiting = liveRows us ws in
     let rows : liveRows us (ws ++ (x ∷ [])) ≡ old ++ (x ∷ []) = sym (append-assoc (map rowOf us) ws (x ∷ [])) in
     let lo : length old ≡ c .first + c .counts .uncommitted + c .counts .waiting = length-append (map rowOf us) ws ∙ omega (arith, length-map us rowOf, w .first, w .uncommitted, w .waiting) in
-    let lw : length (rowWords n f) ≡ liveWidth = length-row n f eight in
+    let lw : length (rowWords n 1 f) ≡ liveWidth = length-row n 1 f eight in
     let lr : length (allRows old) ≡ liveWidth * (c .first + c .counts .uncommitted + c .counts .waiting) = length-rows old (w .eights) ∙ ap (λ (y : ℕ). liveWidth * y) lo in
     let laid : live′ ≡ padded liveLength (allRows (liveRows us (ws ++ (x ∷ [])))) =
-    el ∙ ap (λ (y : List ℕ). sets y (liveWidth * (c .first + c .counts .uncommitted + c .counts .waiting)) (rowWords n f)) (w .at-live)
-    ∙ lay-padded liveLength (allRows old) (rowWords n f) (liveWidth * (c .first + c .counts .uncommitted + c .counts .waiting)) lr (omega (arith, lw, w .first, w .uncommitted, w .waiting))
-    ∙ ap (padded liveLength) (ap (λ (y : List ℕ). allRows old ++ y) (sym (append-nil (rowWords n f))) ∙ sym (rows-append old (x ∷ [])) ∙ ap allRows (sym rows)) in
+    el ∙ ap (λ (y : List ℕ). sets y (liveWidth * (c .first + c .counts .uncommitted + c .counts .waiting)) (rowWords n 1 f)) (w .at-live)
+    ∙ lay-padded liveLength (allRows old) (rowWords n 1 f) (liveWidth * (c .first + c .counts .uncommitted + c .counts .waiting)) lr (omega (arith, lw, w .first, w .uncommitted, w .waiting))
+    ∙ ap (padded liveLength) (ap (λ (y : List ℕ). allRows old ++ y) (sym (append-nil (rowWords n 1 f))) ∙ sym (rows-append old (x ∷ [])) ∙ ap allRows (sym rows)) in
     let wk : Work live′ runs undo room c′ [] us (ws ++ (x ∷ [])) [] room = record {
       at-live = laid;
       at-runs = w .at-runs;
@@ -214,11 +219,11 @@ front-back live runs undo room c (u ∷ us) ws n w =
     ∙ ap (λ (x : ℕ). eqb x n) (ap (λ (l : List ℕ). getD l 0 0) (w .at-live) ∙ number-back liveLength [] (rowOf u) (liveRows us ws) 0 tt (w .eights .0) refl)
 
 module _ (σ : Scheme) (live₀ runs undo room : List ℕ) (cells : Cells) (c : Course) (v : Event) (e : Engine) (rd : Ready σ live₀ runs undo room cells c v e) where
-  pub abort-begun : eqb (v .kind) 1 ≡ false → eqb (v .kind) 2 ≡ false → (runs′ undo′ : List ℕ) (cells′ : Cells) (c′ : Course) → Aborted runs undo cells c runs′ undo′ cells′ c′ → c′ .first + c′ .counts .uncommitted + c′ .counts .waiting ≤ 64
-      → Begun σ live₀ runs′ undo′ room cells′ c′ room (taken σ (request v) e cells)
-  abort-begun a b runs′ undo′ cells′ c′ ab k =
-      subst (λ (q : Request). Begun σ live₀ runs′ undo′ room cells′ c′ room (taken σ q e cells)) (sym (request-decides v false a b))
-      (begun-aborted σ live₀ runs undo room runs′ undo′ cells cells′ c c′ (e .count) (e .largest) (e .uncommitted) (e .waiting) (v .number) (rd .work) (parts σ live₀ runs undo room cells c v e rd) (decided σ live₀ runs undo room cells c v e rd a) ab k)
+  pub abort-begun : eqb (v .kind) 1 ≡ false → eqb (v .kind) 2 ≡ false → (live′ runs′ undo′ : List ℕ) (cells′ : Cells) (c′ : Course) → Aborted live₀ runs undo cells c live′ runs′ undo′ cells′ c′ → c′ .first + c′ .counts .uncommitted + c′ .counts .waiting ≤ 64
+      → Begun σ live′ runs′ undo′ room cells′ c′ room (taken σ (request v) e cells)
+  abort-begun a b live′ runs′ undo′ cells′ c′ ab k =
+      subst (λ (q : Request). Begun σ live′ runs′ undo′ room cells′ c′ room (taken σ q e cells)) (sym (request-decides v false a b))
+      (begun-aborted σ live₀ runs undo room live′ runs′ undo′ cells cells′ c c′ (e .count) (e .largest) (e .uncommitted) (e .waiting) (v .number) (rd .work) (parts σ live₀ runs undo room cells c v e rd) (decided σ live₀ runs undo room cells c v e rd a) ab k)
 
   pub commit-begun : eqb (v .kind) 1 ≡ false → eqb (v .kind) 2 ≡ true → (runs′ undo′ room′ : List ℕ) (c′ : Course) → Committed live₀ runs undo room c runs′ undo′ room′ c′ → c′ .first + c′ .counts .uncommitted + c′ .counts .waiting ≤ 64
       → Begun σ live₀ runs′ undo′ room′ cells c′ room (taken σ (request v) e cells)
@@ -247,7 +252,7 @@ module _ (σ : Scheme) (live₀ runs undo room : List ℕ) (cells : Cells) (c : 
           (leb-false mostFragments (u .ran) (and-if (eqb (u .number) (v .number)) (leb mostFragments (u .ran)) h (and-if (eqb (v .kind) 1) _ a p11)))
           (arrives-storable e (callOf σ v cells room) a (rd .passed)) (rd .words) cn k)
 
-  pub join-begun : eqb (v .kind) 1 ≡ true → frontIs (c .counts .uncommitted) live₀ (v .number) ≡ false → (live′ : List ℕ) (c′ : Course) → live′ ≡ sets live₀ (liveWidth * (c .first + c .counts .uncommitted + c .counts .waiting)) (rowWords (v .number) (v .fragment)) → c′ ≡ waitingMore c
+  pub join-begun : eqb (v .kind) 1 ≡ true → frontIs (c .counts .uncommitted) live₀ (v .number) ≡ false → (live′ : List ℕ) (c′ : Course) → live′ ≡ sets live₀ (liveWidth * (c .first + c .counts .uncommitted + c .counts .waiting)) (rowWords (v .number) 1 (v .fragment)) → c′ ≡ waitingMore c
       → Begun σ live′ runs undo room cells c′ room (taken σ (request v) e cells)
   join-begun a fr live′ c′ el ec =
       subst (λ (q : Request). Begun σ live′ runs undo room cells c′ room (taken σ q e cells)) (sym (request-arrive v a))

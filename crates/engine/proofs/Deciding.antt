@@ -13,18 +13,21 @@ use Rattle.model.specs.Steps.{run, requeued, undone, again, stateAfter}
 use Rattle.model.specs.Steps as Steps
 use Rattle.model.specs.declared.Fragment.{Fragment}
 use Rattle.model.specs.declared.Undo.{Undo}
-use Rattle.model.proofs.Chain.{all-map}
+use Rattle.model.proofs.Chain.{all-map, all-append}
 use Rattle.model.proofs.Running.{joinedBy, run-earlier, outcome-earlier, run-few, run-numbers}
 use Rattle.operations.specs.Laid.{padded, flat, entriesOf, laid}
 use Rattle.operations.specs.declared.Ran.{Ran}
 use Rattle.record.specs.Words.{allRows, allRuns, runWords, stateWord, rowOf, liveRows}
 use Rattle.record.specs.View.{numbersFrom}
 use Rattle.record.proofs.Rows.{shift-padded, lay-padded, numbers-padded}
-use Rattle.record.proofs.Back.{eights-first, eights-rest, number-back, length-runs, length-flat, flat-append, entries-back}
+use Rattle.record.proofs.Back.{eights-first, eights-rest, length-runs, length-flat, flat-append, entries-back}
 use Rattle.engine.specs.declared.course.Course.{Course}
 use Rattle.engine.specs.Work.{Fair, Dropped, Settled, Committed, Aborted, Continued, leftBy, requeuedAll}
-use Rattle.rows.specs.Rows.{withAnswer, runRow, stateWordAfter}
+use Rattle.rows.specs.declared.Trial.{Trial}
+use Rattle.rows.specs.Rows.{trialAt, noTrial, raisedRows, withAnswer, runRow, stateWordAfter}
 use Rattle.rows.proofs.Rooms.{answered-room, state-word}
+use Rattle.rows.proofs.Reading.{trialOf, trial-back}
+use Rattle.rows.proofs.Raised.{raised-rows}
 use Rattle.engine.proofs.Settling.{run-word, run-over}
 use Rattle.model.specs.Parts.{All}
 use Rattle.record.specs.Fitting.{Eight, Fit, Known}
@@ -44,15 +47,27 @@ all-entries : (undo : List ℕ) (us : List Undo) (n : ℕ) → undo ≡ padded u
 all-entries undo us n e en =
     (λ i. entriesOf (e i) 0 (sym en i)) ∙ ap (λ (x : List Undo). entriesOf (padded undoLength (flat x)) 0 (length us)) (sym (append-nil us)) ∙ entries-back undoLength [] us [] 0 refl
 
-pub aborted : (runs undo runs′ undo′ : List ℕ) (cells cells′ : Cells) (c c′ : Course) → Fair c → cells′ ≡ undone (entriesOf undo 0 (c .entries)) cells
+-- those that return keep their fragments
+eights-again : (us : List Uncommitted) (ws : List Waiting) → All Eight (liveRows us ws) → All Eight (map requeued us ++ ws)
+eights-again [] ws h = h
+eights-again (u ∷ us) ws h = (h .0, eights-again us ws (h .1))
+
+pub aborted : (live runs undo live′ runs′ undo′ : List ℕ) (cells cells′ : Cells) (c c′ : Course) → Fair c → cells′ ≡ undone (entriesOf undo 0 (c .entries)) cells
     → runs′ ≡ sets runs 0 (numbersFrom runs (runWidth * c .counts .uncommitted) (runWidth * c .counts .uncommitted)) → undo′ ≡ sets undo 0 (numbersFrom undo (2 * c .entries) (2 * c .entries))
-    → c′ ≡ requeuedAll (leftBy c 0) → Aborted runs undo cells c runs′ undo′ cells′ c′
+    → live′ ≡ raisedRows live (liveWidth * (c .first + 1)) (c .counts .uncommitted - 1) → c′ ≡ requeuedAll (leftBy c 0) → Aborted live runs undo cells c live′ runs′ undo′ cells′ c′
 unfolding allRuns
-aborted runs undo runs′ undo′ cells cells′ c c′ fair es er eu ec live room gone u us ws sent room₀ w k =
+aborted live runs undo live′ runs′ undo′ cells cells′ c c′ fair es er eu el ec room gone u us ws sent room₀ w k few =
     let fits : All Fit (u ∷ us) = all-map Known Fit (λ v h. h .0) (u ∷ us) k in
-    let rows : gone ++ liveRows (u ∷ us) ws ≡ (gone ++ (rowOf u ∷ [])) ++ (map requeued us ++ ws) = sym (append-assoc gone (rowOf u ∷ []) (map requeued us ++ ws)) in (
+    let ahead : List Waiting = gone ++ (rowOf u ∷ []) in
+    let rows : gone ++ liveRows (u ∷ us) ws ≡ ahead ++ liveRows us ws = sym (append-assoc gone (rowOf u ∷ []) (liveRows us ws)) in
+    let eights : All Eight (ahead ++ liveRows us ws) = subst (All Eight) rows (w .eights) in
+    let e-ahead : All Eight ahead = eights-first ahead (liveRows us ws) eights in
+    let e-rest : All Eight (liveRows us ws) = eights-rest ahead (liveRows us ws) eights in
+    let at : liveWidth * length ahead ≡ liveWidth * (c .first + 1) = ap (λ (x : ℕ). liveWidth * x) (length-append gone (rowOf u ∷ []) ∙ ap (λ (x : ℕ). x + 1) (w .first)) in
+    let n-us : c .counts .uncommitted - 1 ≡ length us = omega (arith, w .uncommitted) in (
       record {
-        at-live = w .at-live ∙ ap (λ (x : List Waiting). padded liveLength (allRows x)) rows;
+        at-live = el ∙ (λ i. raisedRows ((w .at-live ∙ ap (λ (x : List Waiting). padded liveLength (allRows x)) rows) i) (liveWidth * (c .first + 1)) (n-us i))
+            ∙ raised-rows liveLength ahead us ws (liveWidth * (c .first + 1)) e-ahead (eights-first (map rowOf us) ws e-rest) few at;
         at-runs = er ∙ ap (λ (x : List ℕ). sets x 0 (numbersFrom x (runWidth * c .counts .uncommitted) (runWidth * c .counts .uncommitted))) (w .at-runs)
             ∙ emptied runsLength (allRuns (u ∷ us)) (runWidth * c .counts .uncommitted) (length-runs (u ∷ us) fits ∙ ap (λ (x : ℕ). runWidth * x) (w .uncommitted)) (omega (arith, fair .depth));
         at-undo = eu ∙ ap (λ (x : List ℕ). sets x 0 (numbersFrom x (2 * c .entries) (2 * c .entries))) (w .at-undo)
@@ -63,7 +78,7 @@ aborted runs undo runs′ undo′ cells cells′ c c′ fair es er eu ec live ro
         waiting = length-append (map requeued us) ws ∙ omega (arith, length-map us requeued, w .uncommitted, w .waiting, ap (λ (x : Course). x .counts .waiting) ec);
         entries = sym (ap (λ (x : Course). x .entries) ec);
         answers = w .answers ∙ sym (ap (λ (x : Course). x .answers) ec);
-        eights = subst (All Eight) rows (w .eights);
+        eights = all-append Eight ahead (map requeued us ++ ws) e-ahead (eights-again us ws e-rest);
         enough = w .enough;
       },
       es ∙ ap (λ (x : List Undo). undone x cells) (all-entries undo (undoList (u ∷ us)) (c .entries) (w .at-undo) (w .entries)),
@@ -87,11 +102,11 @@ first-is : (u : Uncommitted) → getD (runWords u) 0 0 ≡ u .ran
 unfolding runWords
 first-is u = refl
 
-module _ (live runs undo room runs′ undo′ room′ : List ℕ) (cells cells′ : Cells) (c c′ : Course) (f : Fragment) (number ran before state entries : ℕ) (la : Bool) (r : Ran) (w : List ℕ)
-    (fair : Fair c) (some : 0 < c .counts .uncommitted) (en : number ≡ getD live (liveWidth * c .first) 0) (er : r ≡ laid (run f cells [])) (ec : cells′ ≡ run f cells (entriesOf undo 0 (c .entries)) .cells)
+module _ (live runs undo room runs′ undo′ room′ : List ℕ) (cells cells′ : Cells) (c c′ : Course) (f : Fragment) (own : Trial) (ran before state entries : ℕ) (la : Bool) (r : Ran) (w : List ℕ)
+    (fair : Fair c) (some : 0 < c .counts .uncommitted) (en : own ≡ trialAt live (liveWidth * c .first)) (er : r ≡ laid (run f cells [])) (ec : cells′ ≡ run f cells (entriesOf undo 0 (c .entries)) .cells)
     (eran : ran ≡ getD runs 0 0) (ebefore : before ≡ min ran 7) (ela : la ≡ last f) (est : state ≡ stateWordAfter la (r .place)) (een : entries ≡ pick (eqb (r .place) 0) (c .entries + r .entries) 0)
     (eu : undo′ ≡ pick (eqb (r .place) 0) (sets undo (2 * c .entries) (numbersFrom (r .undo) 0 (2 * r .entries))) (sets undo 0 (numbersFrom undo (2 * c .entries) (2 * c .entries))))
-    (ew : w ≡ runRow (before + 1) state 0 entries 0 0 (replicate 8 0)) (eruns : runs′ ≡ sets runs 0 w) (eroom : room′ ≡ withAnswer (c .answers) number 0 r room)
+    (ew : w ≡ runRow (before + 1) state 0 entries 0 0 (replicate 8 0)) (eruns : runs′ ≡ sets runs 0 w) (eroom : room′ ≡ withAnswer (c .answers) own noTrial r room)
     (ecounts : c′ ≡ record { counts = c .counts; first = c .first; entries = entries; answers = c .answers + 1 }) where
   pub continued : Continued live runs undo room cells c f runs′ undo′ room′ cells′ c′
   unfolding laid
@@ -105,7 +120,7 @@ module _ (live runs undo room runs′ undo′ room′ : List ℕ) (cells cells�
       uncommitted = k .uncommitted ∙ sym (ap (λ (x : Course). x .counts .uncommitted) ecounts);
       waiting = k .waiting ∙ sym (ap (λ (x : Course). x .counts .waiting) ecounts);
       entries = ap length (append-nil (run f cells (u .undo) .undo)) ∙ sym entries-is ∙ sym (ap (λ (x : Course). x .entries) ecounts);
-      answers = length-append sent (answer (u .number) 0 (run f cells (u .undo) .outcome) ∷ []) ∙ ap (λ (x : ℕ). x + 1) (k .answers) ∙ sym (ap (λ (x : Course). x .answers) ecounts);
+      answers = length-append sent (answer (u .number) 0 (u .attempt) 0 (run f cells (u .undo) .outcome) ∷ []) ∙ ap (λ (x : ℕ). x + 1) (k .answers) ∙ sym (ap (λ (x : Course). x .answers) ecounts);
       eights = k .eights;
       enough = k .enough;
     },
@@ -118,11 +133,11 @@ module _ (live runs undo room runs′ undo′ room′ : List ℕ) (cells cells�
       whole : length (u .undo ++ []) ≡ length (u .undo)
       whole = ap length (append-nil (u .undo))
 
-      own : entriesOf undo 0 (c .entries) ≡ u .undo
-      own = all-entries undo (u .undo ++ []) (c .entries) (k .at-undo) (k .entries) ∙ append-nil (u .undo)
+      entries-own : entriesOf undo 0 (c .entries) ≡ u .undo
+      entries-own = all-entries undo (u .undo ++ []) (c .entries) (k .at-undo) (k .entries) ∙ append-nil (u .undo)
 
       cells-is : cells′ ≡ run f cells (u .undo) .cells
-      cells-is = ec ∙ ap (λ (x : List Undo). run f cells x .cells) own
+      cells-is = ec ∙ ap (λ (x : List Undo). run f cells x .cells) entries-own
 
       place-is : r .place ≡ run f cells [] .outcome .place
       place-is = ap (λ (x : Ran). x .place) er
@@ -175,15 +190,15 @@ module _ (live runs undo room runs′ undo′ room′ : List ℕ) (cells cells�
           state-is : state ≡ stateWord (stateAfter f (run f cells (u .undo) .outcome))
           state-is = est ∙ ap (stateWordAfter la) place-is ∙ state-word f (run f cells [] .outcome) la ela ∙ ap (λ (o : Outcome). stateWord (stateAfter f o)) (sym tells)
 
-      number-is : number ≡ u .number
-      number-is =
-          en ∙ ap (λ (l : List ℕ). getD l (liveWidth * c .first) 0) (k .at-live)
-          ∙ number-back liveLength gone (rowOf u) (liveRows [] ws) (liveWidth * c .first) (eights-first gone (liveRows (u ∷ []) ws) (k .eights)) (eights-rest gone (liveRows (u ∷ []) ws) (k .eights) .0) (ap (λ (x : ℕ). liveWidth * x) (k .first))
+      own-is : own ≡ trialOf (rowOf u)
+      own-is =
+          en ∙ ap (λ (l : List ℕ). trialAt l (liveWidth * c .first)) (k .at-live)
+          ∙ trial-back liveLength gone (rowOf u) (liveRows [] ws) (liveWidth * c .first) (eights-first gone (liveRows (u ∷ []) ws) (k .eights)) (eights-rest gone (liveRows (u ∷ []) ws) (k .eights) .0) (ap (λ (x : ℕ). liveWidth * x) (k .first))
 
-      room-is : room′ ≡ filled (sent ++ (answer (u .number) 0 (run f cells (u .undo) .outcome) ∷ [])) room₀
-      room-is = eroom ∙ ap (λ (n : ℕ). withAnswer (c .answers) n 0 r room) number-is
-          ∙ answered-room sent (u .number) 0 (run f cells []) r room room₀ (c .answers) er (omega (arith, run-numbers f cells, few-operations f eight)) (k .at-room) (k .answers) (omega (arith, k .enough, fair .answers, some))
-          ∙ ap (λ (o : Outcome). filled (sent ++ (answer (u .number) 0 o ∷ [])) room₀) (sym tells)
+      room-is : room′ ≡ filled (sent ++ (answer (u .number) 0 (u .attempt) 0 (run f cells (u .undo) .outcome) ∷ [])) room₀
+      room-is = eroom ∙ ap (λ (t : Trial). withAnswer (c .answers) t noTrial r room) own-is
+          ∙ answered-room sent (trialOf (rowOf u)) noTrial (run f cells []) r room room₀ (c .answers) er (omega (arith, run-numbers f cells, few-operations f eight)) (k .at-room) (k .answers) (omega (arith, k .enough, fair .answers, some))
+          ∙ ap (λ (o : Outcome). filled (sent ++ (answer (u .number) 0 (u .attempt) 0 o ∷ [])) room₀) (sym tells)
 
 -- a run's own entries fit their row of sixteen
 pub entries-by-row : (R : Steps.Ran) (r : Ran) → r ≡ laid R → length (r .undo) ≡ 16 → r .entries ≤ 8

@@ -10,7 +10,7 @@ use lib.Seq.{sets}
 use Rattle.model.specs.Limits.{depth}
 use Rattle.model.specs.Operations.{Cells, pick, multi, last}
 use Rattle.model.specs.Transactions.{Held, Sent, Uncommitted, Waiting, Answer, answer, undoList, filled}
-use Rattle.model.specs.Steps.{run, begun, oneCoordinator, nearest, mayTake, Place, placed}
+use Rattle.model.specs.Steps.{run, begun, oneCoordinator, nearest, nearestAttempt, mayTake, Place, placed}
 use Rattle.model.specs.Steps as Steps
 use Rattle.model.specs.declared.Fragment.{Fragment}
 use Rattle.model.specs.declared.Scheme.{Scheme}
@@ -23,11 +23,13 @@ use Rattle.operations.specs.declared.Ran.{Ran}
 use Rattle.record.specs.Words.{allRows, runWords, allRuns, rowOf, liveRows, heldOutcome}
 use Rattle.record.specs.View.{fragmentAt, numbersFrom}
 use Rattle.record.proofs.Rows.{lay-padded, numbers-padded}
-use Rattle.record.proofs.Back.{known-of, eights-first, eights-rest, fragment-back, number-back, length-run, length-runs, runs-append, undo-append, flat-append, length-flat}
+use Rattle.record.proofs.Back.{known-of, eights-first, eights-rest, fragment-back, length-run, length-runs, runs-append, undo-append, flat-append, length-flat}
 use Rattle.engine.specs.declared.course.Course.{Course}
 use Rattle.engine.specs.Work.{Work, Left, joinedBy, settledAtOnce, withAnswers, Small}
-use Rattle.rows.specs.Rows.{oneRows, nearRows, answeredNow, joinsQueue, begunRow, withAnswer}
-use Rattle.rows.proofs.Placed.{placed-by, one-back, near-all}
+use Rattle.rows.specs.declared.Trial.{Trial}
+use Rattle.rows.specs.Rows.{trialAt, noTrial, oneRows, nearRows, answeredNow, joinsQueue, begunRow, withAnswer}
+use Rattle.rows.proofs.Placed.{placed-by, one-back, nearestTrial, near-all}
+use Rattle.rows.proofs.Reading.{trialOf, trial-back}
 use Rattle.rows.proofs.Rooms.{answered-room, begun-words}
 use Rattle.model.specs.Parts.{All, Sound}
 use Rattle.record.specs.Fitting.{Eight, Fit, Known}
@@ -39,26 +41,26 @@ rows-joined : (us : List Uncommitted) (w : Waiting) (ws : List Waiting) (v : Unc
 rows-joined [] w ws v e = ap {B = List Waiting} (λ (x : Waiting). x ∷ ws) e
 rows-joined (u ∷ us) w ws v e = ap {B = List Waiting} (λ (x : List Waiting). rowOf u ∷ x) (rows-joined us w ws v e)
 
--- what turn's callees say: number and fragment of the first waiting one, its run, the tests, and what they left
-pub record Facts (live runs undo room : List ℕ) (cells : Cells) (c : Course) (number : ℕ) (f : Fragment) (r : Ran) (m la one ans joins : Bool) (near a′ : ℕ) (runs′ undo′ room′ : List ℕ) (cells′ : Cells) (c′ : Course) : Type 0 where
-  pub numbered : number ≡ getD live (liveWidth * (c .first + c .counts .uncommitted)) 0
+-- what turn's callees say: transaction and fragment of the first waiting one, its run, the tests, and what they left
+pub record Facts (live runs undo room : List ℕ) (cells : Cells) (c : Course) (own : Trial) (f : Fragment) (r : Ran) (m la one ans joins : Bool) (near : Trial) (a′ : ℕ) (runs′ undo′ room′ : List ℕ) (cells′ : Cells) (c′ : Course) : Type 0 where
+  pub tried : own ≡ trialAt live (liveWidth * (c .first + c .counts .uncommitted))
   pub fragment : f ≡ fragmentAt live (liveWidth * (c .first + c .counts .uncommitted))
   pub ran : r ≡ laid (run f cells [])
   pub stands : cells′ ≡ run f cells [] .cells
   pub multi : m ≡ multi f
   pub last : la ≡ last f
   pub is-one : one ≡ oneRows live (liveWidth * c .first) (c .counts .uncommitted) (f .coordinator)
-  pub is-near : near ≡ nearRows 0 live (liveWidth * c .first) (c .counts .uncommitted)
+  pub is-near : near ≡ nearRows noTrial live (liveWidth * c .first) (c .counts .uncommitted)
   pub is-ans : ans ≡ answeredNow (c .counts .uncommitted) m one
   pub is-joins : joins ≡ joinsQueue (c .counts .uncommitted) m
   pub count : a′ ≡ pick ans (c .answers + 1) (c .answers)
-  pub is-room : room′ ≡ pick ans (withAnswer (c .answers) number near r room) room
+  pub is-room : room′ ≡ pick ans (withAnswer (c .answers) own near r room) room
   pub is-runs : runs′ ≡ pick joins (sets runs (runWidth * c .counts .uncommitted) (begunRow (not ans) la r)) runs
   pub is-undo : undo′ ≡ pick joins (sets undo (2 * c .entries) (numbersFrom (r .undo) 0 (2 * r .entries))) undo
   pub counts : c′ ≡ pick joins (joinedBy (withAnswers a′ c) r) (settledAtOnce (withAnswers a′ c))
 
-module _ (live runs undo room : List ℕ) (cells : Cells) (c : Course) (number : ℕ) (f : Fragment) (r : Ran) (m la one ans joins : Bool) (near a′ : ℕ) (runs′ undo′ room′ : List ℕ) (cells′ : Cells) (c′ : Course)
-    (facts : Facts live runs undo room cells c number f r m la one ans joins near a′ runs′ undo′ room′ cells′ c′) (small : Small c)
+module _ (live runs undo room : List ℕ) (cells : Cells) (c : Course) (own : Trial) (f : Fragment) (r : Ran) (m la one ans joins : Bool) (near : Trial) (a′ : ℕ) (runs′ undo′ room′ : List ℕ) (cells′ : Cells) (c′ : Course)
+    (facts : Facts live runs undo room cells c own f r m la one ans joins near a′ runs′ undo′ room′ cells′ c′) (small : Small c)
     (gone : List Waiting) (us : List Uncommitted) (w : Waiting) (ws : List Waiting) (sent : List Answer) (room₀ : List ℕ) (work : Work live runs undo room c gone us (w ∷ ws) sent room₀)
     (ct top : ℕ) (s : Sound ct top us (w ∷ ws)) (σ : Scheme) (take : mayTake σ us ≡ true) where
   whole : gone ++ liveRows us (w ∷ ws) ≡ (gone ++ map rowOf us) ++ w ∷ ws
@@ -88,8 +90,8 @@ module _ (live runs undo room : List ℕ) (cells : Cells) (c : Course) (number :
   is-fragment : f ≡ w .fragment
   is-fragment = facts .fragment ∙ ap (λ (l : List ℕ). fragmentAt l (liveWidth * (c .first + c .counts .uncommitted))) at-live ∙ fragment-back liveLength (gone ++ map rowOf us) w ws (liveWidth * (c .first + c .counts .uncommitted)) eA eW at
 
-  is-number : number ≡ w .number
-  is-number = facts .numbered ∙ ap (λ (l : List ℕ). getD l (liveWidth * (c .first + c .counts .uncommitted)) 0) at-live ∙ number-back liveLength (gone ++ map rowOf us) w ws (liveWidth * (c .first + c .counts .uncommitted)) eA eW at
+  is-own : own ≡ trialOf w
+  is-own = facts .tried ∙ ap (λ (l : List ℕ). trialAt l (liveWidth * (c .first + c .counts .uncommitted))) at-live ∙ trial-back liveLength (gone ++ map rowOf us) w ws (liveWidth * (c .first + c .counts .uncommitted)) eA eW at
 
   is-run : r ≡ laid (run (w .fragment) cells [])
   is-run = facts .ran ∙ ap (λ (x : Fragment). laid (run x cells [])) is-fragment
@@ -101,8 +103,8 @@ module _ (live runs undo room : List ℕ) (cells : Cells) (c : Course) (number :
   is-one =
       facts .is-one ∙ (λ i. oneRows (work .at-live i) (liveWidth * c .first) (sym (work .uncommitted) i) (is-fragment i .coordinator)) ∙ one-back liveLength (w ∷ ws) gone us (liveWidth * c .first) eG eL first-at (w .fragment .coordinator)
 
-  is-near : near ≡ nearest 0 us
-  is-near = facts .is-near ∙ (λ i. nearRows 0 (work .at-live i) (liveWidth * c .first) (sym (work .uncommitted) i)) ∙ near-all liveLength (w ∷ ws) gone us (liveWidth * c .first) eG eL first-at 0
+  is-near : near ≡ nearestTrial noTrial us
+  is-near = facts .is-near ∙ (λ i. nearRows noTrial (work .at-live i) (liveWidth * c .first) (sym (work .uncommitted) i)) ∙ near-all liveLength (w ∷ ws) gone us (liveWidth * c .first) eG eL first-at noTrial
 
   is-multi : m ≡ multi (w .fragment)
   is-multi = facts .multi ∙ ap multi is-fragment
@@ -116,20 +118,20 @@ module _ (live runs undo room : List ℕ) (cells : Cells) (c : Course) (number :
   left : Keeping.Left ct (0 + 8) (run (w .fragment) cells [])
   left = Keeping.ran-left ct (w .fragment) cells [] (s .waiting .0) refl
 
-  room-is : room′ ≡ filled (sent ++ pick ans (answer (w .number) (nearest 0 us) (run (w .fragment) cells [] .outcome) ∷ []) []) room₀
+  room-is : room′ ≡ filled (sent ++ pick ans (answer (w .number) (nearest 0 us) (w .attempt) (nearestAttempt 0 us) (run (w .fragment) cells [] .outcome) ∷ []) []) room₀
   room-is = facts .is-room ∙ go ans
     where
-      go : (b : Bool) → pick b (withAnswer (c .answers) number near r room) room ≡ filled (sent ++ pick b (answer (w .number) (nearest 0 us) (run (w .fragment) cells [] .outcome) ∷ []) []) room₀
+      go : (b : Bool) → pick b (withAnswer (c .answers) own near r room) room ≡ filled (sent ++ pick b (answer (w .number) (nearest 0 us) (w .attempt) (nearestAttempt 0 us) (run (w .fragment) cells [] .outcome) ∷ []) []) room₀
       go true =
-          (λ i. withAnswer (c .answers) (is-number i) (is-near i) r room)
-          ∙ answered-room sent (w .number) (nearest 0 us) (run (w .fragment) cells []) r room room₀ (c .answers) is-run (left .numbers) (work .at-room) (work .answers) (omega (arith, work .enough, small .answers, work .waiting))
+          (λ i. withAnswer (c .answers) (is-own i) (is-near i) r room)
+          ∙ answered-room sent (trialOf w) (nearestTrial noTrial us) (run (w .fragment) cells []) r room room₀ (c .answers) is-run (left .numbers) (work .at-room) (work .answers) (omega (arith, work .enough, small .answers, work .waiting))
       go false = work .at-room ∙ ap (λ (l : List Answer). filled l room₀) (sym (append-nil sent))
 
-  count-is : length (sent ++ pick ans (answer (w .number) (nearest 0 us) (run (w .fragment) cells [] .outcome) ∷ []) []) ≡ a′
+  count-is : length (sent ++ pick ans (answer (w .number) (nearest 0 us) (w .attempt) (nearestAttempt 0 us) (run (w .fragment) cells [] .outcome) ∷ []) []) ≡ a′
   count-is = go ans ∙ sym (facts .count)
     where
-      go : (b : Bool) → length (sent ++ pick b (answer (w .number) (nearest 0 us) (run (w .fragment) cells [] .outcome) ∷ []) []) ≡ pick b (c .answers + 1) (c .answers)
-      go true = length-append sent (answer (w .number) (nearest 0 us) (run (w .fragment) cells [] .outcome) ∷ []) ∙ ap (λ (n : ℕ). n + 1) (work .answers)
+      go : (b : Bool) → length (sent ++ pick b (answer (w .number) (nearest 0 us) (w .attempt) (nearestAttempt 0 us) (run (w .fragment) cells [] .outcome) ∷ []) []) ≡ pick b (c .answers + 1) (c .answers)
+      go true = length-append sent (answer (w .number) (nearest 0 us) (w .attempt) (nearestAttempt 0 us) (run (w .fragment) cells [] .outcome) ∷ []) ∙ ap (λ (n : ℕ). n + 1) (work .answers)
       go false = ap length (append-nil sent) ∙ work .answers
 
   -- it joins: one more uncommitted one, with the reply that the tests gave it
@@ -178,7 +180,7 @@ module _ (live runs undo room : List ℕ) (cells : Cells) (c : Course) (number :
       ∙ ap (padded undoLength) (sym (flat-append (undoList us) (run (w .fragment) cells [] .undo)) ∙ ap flat (sym undo-joined))
 
   joins-work : joins ≡ true → Work live runs′ undo′ room′ c′ gone (us ++ (begun w (run (w .fragment) cells []) (pick (not ans) (Held (run (w .fragment) cells [] .outcome)) Sent) ∷ [])) ws
-      (sent ++ pick ans (answer (w .number) (nearest 0 us) (run (w .fragment) cells [] .outcome) ∷ []) []) room₀
+      (sent ++ pick ans (answer (w .number) (nearest 0 us) (w .attempt) (nearestAttempt 0 us) (run (w .fragment) cells [] .outcome) ∷ []) []) room₀
   unfolding laid
   joins-work j =
       let e : c′ ≡ joinedBy (withAnswers a′ c) r = facts .counts ∙ ap (λ (b : Bool). pick b (joinedBy (withAnswers a′ c) r) (settledAtOnce (withAnswers a′ c))) j in
@@ -200,7 +202,7 @@ module _ (live runs undo room : List ℕ) (cells : Cells) (c : Course) (number :
 
   -- it settles at once, with nothing uncommitted
   settles-work : us ≡ [] → joins ≡ false → Work live runs′ undo′ room′ c′ (gone ++ (w ∷ [])) us ws
-      (sent ++ pick ans (answer (w .number) (nearest 0 us) (run (w .fragment) cells [] .outcome) ∷ []) []) room₀
+      (sent ++ pick ans (answer (w .number) (nearest 0 us) (w .attempt) (nearestAttempt 0 us) (run (w .fragment) cells [] .outcome) ∷ []) []) room₀
   settles-work z j =
       let e : c′ ≡ settledAtOnce (withAnswers a′ c) = facts .counts ∙ ap (λ (b : Bool). pick b (joinedBy (withAnswers a′ c) r) (settledAtOnce (withAnswers a′ c))) j in
       let rows : gone ++ liveRows us (w ∷ ws) ≡ (gone ++ (w ∷ [])) ++ liveRows us ws =
@@ -225,7 +227,7 @@ module _ (live runs undo room : List ℕ) (cells : Cells) (c : Course) (number :
     where
       p : placed us w (run (w .fragment) cells []) ≡ record {
         uncommitted = pick joins (us ++ (begun w (run (w .fragment) cells []) (pick (not ans) (Held (run (w .fragment) cells [] .outcome)) Sent) ∷ [])) us;
-        answers = pick ans (answer (w .number) (nearest 0 us) (run (w .fragment) cells [] .outcome) ∷ []) [];
+        answers = pick ans (answer (w .number) (nearest 0 us) (w .attempt) (nearestAttempt 0 us) (run (w .fragment) cells [] .outcome) ∷ []) [];
         settles = pick joins [] (w .number ∷ []);
       }
       p = placed-by us w (run (w .fragment) cells []) ans joins is-ans is-joins

@@ -12,17 +12,19 @@ use lib.Seq.{sets, sets-eq, take-at, drop-at, getD-append-add}
 use Rattle.model.specs.Limits.{answerWords}
 use Rattle.model.specs.Operations.{Outcome, pick, multi}
 use Rattle.model.specs.Transactions.{Reply, Held, Sent, NoReply, Uncommitted, Waiting, Answer, answer, words, undoList, filled, front}
-use Rattle.model.specs.Steps.{heldWith, heldBy, sent, Place, released, settled}
+use Rattle.model.specs.Steps.{heldBy, sent, Place, released, settled}
 use Rattle.model.proofs.Chain.{all-map}
 use Rattle.operations.specs.Laid.{padded, flat}
 use Rattle.operations.proofs.Turns.{length-padded}
 use Rattle.record.specs.Words.{rowWords, allRows, stateWord, replyWord, heldOutcome, outcomeWords, runWords, allRuns, rowOf, liveRows}
 use Rattle.record.specs.View.{numbersFrom}
 use Rattle.record.proofs.Rows.{shift-padded, numbers-same, numbers-whole}
-use Rattle.record.proofs.Back.{eights-first, eights-rest, row-read, number-back, length-run, length-runs, runs-append, run-read, length-flat, flat-append}
+use Rattle.record.proofs.Back.{eights-first, eights-rest, row-read, length-run, length-runs, runs-append, run-read, length-flat, flat-append}
 use Rattle.engine.specs.declared.course.Course.{Course}
-use Rattle.engine.specs.Work.{Work, Fair, Dropped, SettledOne, SettledTo, Singles, Fronted, Settled, leftBy, withAnswers}
-use Rattle.rows.specs.Rows.{holdsRow, heldRow, multiRow, sentRow, runRow}
+use Rattle.engine.specs.Work.{heldUnder, Work, Fair, Dropped, SettledOne, SettledTo, Singles, Fronted, Settled, leftBy, withAnswers}
+use Rattle.rows.specs.declared.Trial.{Trial}
+use Rattle.rows.specs.Rows.{trialAt, noTrial, holdsRow, heldRow, multiRow, sentRow, runRow}
+use Rattle.rows.proofs.Reading.{trialOf, trial-back}
 use Rattle.rows.proofs.Rooms.{answer-row, room-more}
 use Rattle.model.specs.Parts.{All}
 use Rattle.model.specs.Refusals.{isReply}
@@ -103,33 +105,33 @@ module _ (P : List Uncommitted) (u : Uncommitted) (us : List Uncommitted) (runs 
   holds-word = ap (λ (x : ℕ). eqb x 1) (run-word 2 (omega arith) ∙ run-word-2 u)
 
   -- the room after what it holds was sent with a dependence
-  pub held-room : (d : ℕ) (sent : List Answer) (room room′ room₀ : List ℕ) (a n : ℕ) → n ≡ u .number → room ≡ filled sent room₀ → length sent ≡ a → answerWords * (a + 1) ≤ length room₀
-      → room′ ≡ pick (holdsRow runs b) (sets room (answerWords * a) (heldRow runs b n d)) room → room′ ≡ filled (sent ++ heldWith d u) room₀
-  held-room d sent room room′ room₀ a n en er el h h′ = h′ ∙ ap (λ (z : Bool). pick z (sets room (answerWords * a) (heldRow runs b n d)) room) holds-word ∙ go (u .reply) refl
+  pub held-room : (d : Trial) (sent : List Answer) (room room′ room₀ : List ℕ) (a : ℕ) (t : Trial) → t ≡ trialOf (rowOf u) → room ≡ filled sent room₀ → length sent ≡ a → answerWords * (a + 1) ≤ length room₀
+      → room′ ≡ pick (holdsRow runs b) (sets room (answerWords * a) (heldRow runs b t d)) room → room′ ≡ filled (sent ++ heldUnder d u) room₀
+  held-room d sent room room′ room₀ a t en er el h h′ = h′ ∙ ap (λ (z : Bool). pick z (sets room (answerWords * a) (heldRow runs b t d)) room) holds-word ∙ go (u .reply) refl
     where
-      go : (r : Reply) → u .reply ≡ r → pick (eqb (replyWord r) 1) (sets room (answerWords * a) (heldRow runs b n d)) room ≡ filled (sent ++ elim r as (λ _. List Answer) [ Held o ↦ answer (u .number) d o ∷ [] | Sent ↦ [] | NoReply ↦ [] ]) room₀
+      go : (r : Reply) → u .reply ≡ r → pick (eqb (replyWord r) 1) (sets room (answerWords * a) (heldRow runs b t d)) room ≡ filled (sent ++ elim r as (λ _. List Answer) [ Held o ↦ answer (u .number) (d .number) (u .attempt) (d .attempt) o ∷ [] | Sent ↦ [] | NoReply ↦ [] ]) room₀
       go (Held o) q =
-          (λ i. sets (er i) (answerWords * a) (en i ∷ d ∷ (held-words ∙ ap (λ (r : Reply). outcomeWords (heldOutcome r)) q) i ++ (0 ∷ 0 ∷ 0 ∷ 0 ∷ [])))
-          ∙ ap (sets (filled sent room₀) (answerWords * a)) (answer-row (u .number) d o (subst (λ (r : Reply). length (heldOutcome r .numbers) ≤ 8) q (k .0)))
-          ∙ room-more sent (answer (u .number) d o) room₀ a el h
+          (λ i. sets (er i) (answerWords * a) (en i .number ∷ d .number ∷ (held-words ∙ ap (λ (r : Reply). outcomeWords (heldOutcome r)) q) i ++ (en i .attempt ∷ d .attempt ∷ 0 ∷ 0 ∷ [])))
+          ∙ ap (sets (filled sent room₀) (answerWords * a)) (answer-row (trialOf (rowOf u)) d o (subst (λ (r : Reply). length (heldOutcome r .numbers) ≤ 8) q (k .0)))
+          ∙ room-more sent (answer (u .number) (d .number) (u .attempt) (d .attempt) o) room₀ a el h
       go Sent q = er ∙ ap (λ (l : List Answer). filled l room₀) (sym (append-nil sent))
       go NoReply q = er ∙ ap (λ (l : List Answer). filled l room₀) (sym (append-nil sent))
 
-  pub held-count : (d : ℕ) (sent : List Answer) (a a′ : ℕ) → length sent ≡ a → a′ ≡ pick (holdsRow runs b) (a + 1) a → length (sent ++ heldWith d u) ≡ a′
+  pub held-count : (d : Trial) (sent : List Answer) (a a′ : ℕ) → length sent ≡ a → a′ ≡ pick (holdsRow runs b) (a + 1) a → length (sent ++ heldUnder d u) ≡ a′
   held-count d sent a a′ el ea = go (u .reply) ∙ sym (ea ∙ ap (λ (z : Bool). pick z (a + 1) a) holds-word)
     where
-      go : (r : Reply) → length (sent ++ elim r as (λ _. List Answer) [ Held o ↦ answer (u .number) d o ∷ [] | Sent ↦ [] | NoReply ↦ [] ]) ≡ pick (eqb (replyWord r) 1) (a + 1) a
-      go (Held o) = length-append sent (answer (u .number) d o ∷ []) ∙ ap (λ (x : ℕ). x + 1) el
+      go : (r : Reply) → length (sent ++ elim r as (λ _. List Answer) [ Held o ↦ answer (u .number) (d .number) (u .attempt) (d .attempt) o ∷ [] | Sent ↦ [] | NoReply ↦ [] ]) ≡ pick (eqb (replyWord r) 1) (a + 1) a
+      go (Held o) = length-append sent (answer (u .number) (d .number) (u .attempt) (d .attempt) o ∷ []) ∙ ap (λ (x : ℕ). x + 1) el
       go Sent = ap length (append-nil sent) ∙ el
       go NoReply = ap length (append-nil sent) ∙ el
 
   -- one that holds nothing has sent it
-  pub not-held : (d : ℕ) → holdsRow runs b ≡ false → (sent u ≡ u) × (heldWith d u ≡ [])
+  pub not-held : (d : Trial) → holdsRow runs b ≡ false → (sent u ≡ u) × (heldUnder d u ≡ [])
   not-held d h = go (u .reply) refl (k .2) (sym holds-word ∙ h)
     where
-      go : (r : Reply) → u .reply ≡ r → isReply r ≡ true → eqb (replyWord r) 1 ≡ false → (sent u ≡ u) × _≡_ {A = List Answer} (elim r as (λ _. List Answer) [ Held o ↦ answer (u .number) d o ∷ [] | Sent ↦ [] | NoReply ↦ [] ]) []
+      go : (r : Reply) → u .reply ≡ r → isReply r ≡ true → eqb (replyWord r) 1 ≡ false → (sent u ≡ u) × _≡_ {A = List Answer} (elim r as (λ _. List Answer) [ Held o ↦ answer (u .number) (d .number) (u .attempt) (d .attempt) o ∷ [] | Sent ↦ [] | NoReply ↦ [] ]) []
       go (Held o) q r z = absurd (true≢false z)
-      go Sent q r z = ((λ i. record { number = u .number; first = u .first; ran = u .ran; state = u .state; reply = sym q i; undo = u .undo }), refl)
+      go Sent q r z = ((λ i. record { number = u .number; attempt = u .attempt; first = u .first; ran = u .ran; state = u .state; reply = sym q i; undo = u .undo }), refl)
       go NoReply q r z = absurd (true≢false (sym r))
 
   -- another run laid over its own
@@ -168,14 +170,17 @@ settled-single u us e =
 
 -- One settles
 
-module _ (live runs undo room runs′ undo′ room′ : List ℕ) (c d c′ : Course) (number a : ℕ) (fair : Fair c) (some : 0 < c .counts .uncommitted)
-    (en : number ≡ getD live (liveWidth * c .first) 0) (ea : a ≡ pick (holdsRow runs 0) (c .answers + 1) (c .answers))
-    (er : room′ ≡ pick (holdsRow runs 0) (sets room (answerWords * c .answers) (heldRow runs 0 number 0)) room) where
-  -- the number in the front's row, and its held answer in the room
-  front-number : (gone : List Waiting) (u : Uncommitted) (us : List Uncommitted) (ws : List Waiting) (sent : List Answer) (room₀ : List ℕ) → Work live runs undo room c gone (u ∷ us) ws sent room₀ → number ≡ u .number
-  front-number gone u us ws sent room₀ w =
-      en ∙ ap (λ (l : List ℕ). getD l (liveWidth * c .first) 0) (w .at-live)
-      ∙ number-back liveLength gone (rowOf u) (liveRows us ws) (liveWidth * c .first) (eights-first gone (liveRows (u ∷ us) ws) (w .eights)) (eights-rest gone (liveRows (u ∷ us) ws) (w .eights) .0) (ap (λ (x : ℕ). liveWidth * x) (w .first))
+module _ (live runs undo room runs′ undo′ room′ : List ℕ) (c d c′ : Course) (own none : Trial) (a : ℕ) (fair : Fair c) (some : 0 < c .counts .uncommitted)
+    (en : own ≡ trialAt live (liveWidth * c .first)) (ea : a ≡ pick (holdsRow runs 0) (c .answers + 1) (c .answers))
+    (er : room′ ≡ pick (holdsRow runs 0) (sets room (answerWords * c .answers) (heldRow runs 0 own none)) room) (ez : none ≡ noTrial) where
+  sent-none : room′ ≡ pick (holdsRow runs 0) (sets room (answerWords * c .answers) (heldRow runs 0 own noTrial)) room
+  sent-none = er ∙ ap (λ (t : Trial). pick (holdsRow runs 0) (sets room (answerWords * c .answers) (heldRow runs 0 own t)) room) ez
+
+  -- the transaction in the front's row, and its held answer in the room
+  front-trial : (gone : List Waiting) (u : Uncommitted) (us : List Uncommitted) (ws : List Waiting) (sent : List Answer) (room₀ : List ℕ) → Work live runs undo room c gone (u ∷ us) ws sent room₀ → own ≡ trialOf (rowOf u)
+  front-trial gone u us ws sent room₀ w =
+      en ∙ ap (λ (l : List ℕ). trialAt l (liveWidth * c .first)) (w .at-live)
+      ∙ trial-back liveLength gone (rowOf u) (liveRows us ws) (liveWidth * c .first) (eights-first gone (liveRows (u ∷ us) ws) (w .eights)) (eights-rest gone (liveRows (u ∷ us) ws) (w .eights) .0) (ap (λ (x : ℕ). liveWidth * x) (w .first))
 
   fits : (gone : List Waiting) (u : Uncommitted) (us : List Uncommitted) (ws : List Waiting) (sent : List Answer) (room₀ : List ℕ) → Work live runs undo room c gone (u ∷ us) ws sent room₀ → answerWords * (c .answers + 1) ≤ length room₀
   fits gone u us ws sent room₀ w = omega (arith, w .enough, fair .answers, some)
@@ -187,12 +192,12 @@ module _ (live runs undo room runs′ undo′ room′ : List ℕ) (c d c′ : Co
         at-live = x .at-live;
         at-runs = x .at-runs;
         at-undo = x .at-undo;
-        at-room = held-room [] u us runs 0 tt (k .0) refl (w .at-runs) 0 sent room room′ room₀ (c .answers) number (front-number gone u us ws sent room₀ w) (w .at-room) (w .answers) (fits gone u us ws sent room₀ w) er;
+        at-room = held-room [] u us runs 0 tt (k .0) refl (w .at-runs) noTrial sent room room′ room₀ (c .answers) own (front-trial gone u us ws sent room₀ w) (w .at-room) (w .answers) (fits gone u us ws sent room₀ w) sent-none;
         first = x .first ∙ sym (ap (λ (y : Course). y .first) ec);
         uncommitted = x .uncommitted ∙ sym (ap (λ (y : Course). y .counts .uncommitted) ec);
         waiting = x .waiting ∙ sym (ap (λ (y : Course). y .counts .waiting) ec);
         entries = x .entries ∙ sym (ap (λ (y : Course). y .entries) ec);
-        answers = held-count [] u us runs 0 tt (k .0) refl (w .at-runs) 0 sent (c .answers) a (w .answers) ea ∙ sym (ap (λ (y : Course). y .answers) ec);
+        answers = held-count [] u us runs 0 tt (k .0) refl (w .at-runs) noTrial sent (c .answers) a (w .answers) ea ∙ sym (ap (λ (y : Course). y .answers) ec);
         eights = x .eights;
         enough = x .enough;
       }

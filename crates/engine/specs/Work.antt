@@ -4,7 +4,7 @@ use mathlib.Core.Path.{_≡_}
 use mathlib.Core.Bool.{true, false, not}
 use mathlib.Core.List.{List, [], _∷_, _++_, map}
 use lib.ListN.{length}
-use Rattle.model.specs.Limits.{leastRoom}
+use Rattle.model.specs.Limits.{TOP, leastRoom}
 use Rattle.model.specs.Operations.{Cells, multi, pick}
 use Rattle.model.specs.Transactions.{Uncommitted, Waiting, Answer, answer, undoList, filled, front}
 use Rattle.model.specs.Steps.{run, requeued, mayTake, placed, Queues, drain, again, heldWith, heldBy, sent, settled, undone}
@@ -12,6 +12,7 @@ use Rattle.model.specs.declared.Fragment.{Fragment}
 use Rattle.model.specs.declared.Scheme.{Scheme}
 use Rattle.operations.specs.Laid.{padded, flat}
 use Rattle.operations.specs.declared.Ran.{Ran}
+use Rattle.rows.specs.declared.Trial.{Trial}
 use Rattle.record.specs.Words.{allRows, allRuns, rowOf, liveRows}
 use Rattle.record.specs.Ends.{endsAt}
 use Rattle.engine.specs.declared.course.Course.{Course}
@@ -121,12 +122,16 @@ Singles live runs undo room c runs′ undo′ room′ c′ =
     (gone : List Waiting) (us : List Uncommitted) (ws : List Waiting) (sent : List Answer) (room₀ : List ℕ) → Work live runs undo room c gone us ws sent room₀ → All Known us
     → (s : SettledTo live runs′ undo′ room′ c′ us ws sent room₀) × (front (λ (u : Uncommitted). not (multi (u .first))) (s .left) ≡ false)
 
+-- what u holds, with a dependence on d
+abbrev pub heldUnder : Trial → Uncommitted → List Answer
+heldUnder d u = heldWith (d .number) (d .attempt) u
+
 -- the one behind P is sent what it holds, if it is a multi
-abbrev pub ReleasedOne : List ℕ → List ℕ → List ℕ → Course → ℕ → ℕ → List ℕ → List ℕ → Course → Type 0
+abbrev pub ReleasedOne : List ℕ → List ℕ → List ℕ → Course → ℕ → Trial → List ℕ → List ℕ → Course → Type 0
 ReleasedOne live runs room c i near runs′ room′ c′ =
     (undo : List ℕ) (gone : List Waiting) (P : List Uncommitted) (u : Uncommitted) (us : List Uncommitted) (ws : List Waiting) (sent′ : List Answer) (room₀ : List ℕ)
     → Work live runs undo room c gone (P ++ u ∷ us) ws sent′ room₀ → All Known (P ++ u ∷ us) → length P ≡ i
-    → Work live runs′ undo room′ c′ gone (P ++ pick (multi (u .first)) (sent u) u ∷ us) ws (sent′ ++ pick (multi (u .first)) (heldWith near u) []) room₀
+    → Work live runs′ undo room′ c′ gone (P ++ pick (multi (u .first)) (sent u) u ∷ us) ws (sent′ ++ pick (multi (u .first)) (heldUnder near u) []) room₀
 
 -- a multi is first: it is answered, and what is released behind it
 abbrev pub Fronted : List ℕ → List ℕ → List ℕ → Course → List ℕ → List ℕ → Course → Type 0
@@ -147,15 +152,15 @@ Committed live runs undo room c runs′ undo′ room′ c′ =
     → (gone′ : List Waiting) × Work live runs′ undo′ room′ c′ gone′ (settled us .uncommitted) ws (sent ++ settled us .answers) room₀
 
 -- everything uncommitted is undone, and all but the front waits again
-abbrev pub Aborted : List ℕ → List ℕ → Cells → Course → List ℕ → List ℕ → Cells → Course → Type 0
-Aborted runs undo cells c runs′ undo′ cells′ c′ =
-    (live room : List ℕ) (gone : List Waiting) (u : Uncommitted) (us : List Uncommitted) (ws : List Waiting) (sent : List Answer) (room₀ : List ℕ) → Work live runs undo room c gone (u ∷ us) ws sent room₀ → All Known (u ∷ us)
-    → Work live runs′ undo′ room c′ (gone ++ (rowOf u ∷ [])) [] (map requeued us ++ ws) sent room₀ × (cells′ ≡ undone (undoList (u ∷ us)) cells)
+abbrev pub Aborted : List ℕ → List ℕ → List ℕ → Cells → Course → List ℕ → List ℕ → List ℕ → Cells → Course → Type 0
+Aborted live runs undo cells c live′ runs′ undo′ cells′ c′ =
+    (room : List ℕ) (gone : List Waiting) (u : Uncommitted) (us : List Uncommitted) (ws : List Waiting) (sent : List Answer) (room₀ : List ℕ) → Work live runs undo room c gone (u ∷ us) ws sent room₀ → All Known (u ∷ us)
+    → All (λ (v : Uncommitted). v .attempt < TOP) us → Work live′ runs′ undo′ room c′ (gone ++ (rowOf u ∷ [])) [] (map requeued us ++ ws) sent room₀ × (cells′ ≡ undone (undoList (u ∷ us)) cells)
 
 -- the front, alone, has run one more fragment
 abbrev pub Continued : List ℕ → List ℕ → List ℕ → List ℕ → Cells → Course → Fragment → List ℕ → List ℕ → List ℕ → Cells → Course → Type 0
 Continued live runs undo room cells c f runs′ undo′ room′ cells′ c′ =
     (gone : List Waiting) (u : Uncommitted) (ws : List Waiting) (sent : List Answer) (room₀ : List ℕ) → Work live runs undo room c gone (u ∷ []) ws sent room₀ → Known u → u .ran < 8
     → length (f .row) ≡ 8 → length (u .undo) ≤ 8 * u .ran
-    → Work live runs′ undo′ room′ c′ gone (again u f (run f cells (u .undo)) ∷ []) ws (sent ++ (answer (u .number) 0 (run f cells (u .undo) .outcome) ∷ [])) room₀
+    → Work live runs′ undo′ room′ c′ gone (again u f (run f cells (u .undo)) ∷ []) ws (sent ++ (answer (u .number) 0 (u .attempt) 0 (run f cells (u .undo) .outcome) ∷ [])) room₀
     × (cells′ ≡ run f cells (u .undo) .cells)

@@ -4,13 +4,20 @@ ghost use Rattle.engine.specs.Work.{Kept, Fair, Aborted};
 use crate::course::Course;
 
 // "Abort of the front: undo all uncommitted from the tail to the front; the front is gone; the others return to the head of the waiting
-// queue in their old order": the boundary between the two queues moves back; the drain is still to come.
-pub(crate) fn abort(runs: &mut [u32], undo: &mut [u32], cells: &mut [u32], c: Course) -> Course
+// queue in their old order": the boundary between the two queues moves back, and each that returns has an attempt more (02, L2); the drain is still
+// to come.
+pub(crate) fn abort(
+    live: &mut [u32],
+    runs: &mut [u32],
+    undo: &mut [u32],
+    cells: &mut [u32],
+    c: Course,
+) -> Course
     requires { ⌜ Fair c ⌝ }
     requires { ⌜ 0 < c .counts .uncommitted ⌝ }
     ensures { λ d. ⌜ d .first + d .counts .uncommitted + d .counts .waiting ≤ 64 ⌝ }
-    ensures { λ d. ⌜ Aborted (now (runs .entry)) (now (undo .entry)) (now (cells .entry)) c
-        (now (runs .exit)) (now (undo .exit)) (now (cells .exit)) d ⌝ }
+    ensures { λ d. ⌜ Aborted (now (live .entry)) (now (runs .entry)) (now (undo .entry)) (now (cells .entry)) c
+        (now (live .exit)) (now (runs .exit)) (now (undo .exit)) (now (cells .exit)) d ⌝ }
     ensures { λ d. ⌜ Kept c d ⌝ }
 {
     operations::undo(cells, undo, c.entries);
@@ -24,5 +31,7 @@ pub(crate) fn abort(runs: &mut [u32], undo: &mut [u32], cells: &mut [u32], c: Co
         record::ENTRY_WIDTH * c.entries,
         record::ENTRY_WIDTH * c.entries,
     );
-    c.leaves(0).requeues()
+    let d = c.leaves(0);
+    rows::raise_attempts(live, record::LIVE_WIDTH * d.first, d.counts.uncommitted);
+    d.requeues()
 }

@@ -11,22 +11,23 @@ use crate::answers::put_answer;
 use crate::course::Course;
 use model::Scheme;
 use operations::Ran;
+use rows::Trial;
 
 // Puts an answer behind the others if it is to be sent now; how many answers there are then.
 pub(crate) fn answer_if(
     now_sent: bool,
     room: &mut [u32],
     answers: u32,
-    number: u32,
-    dependence: u32,
+    own: Trial,
+    near: Trial,
     r: Ran,
 ) -> u32
     requires { ⌜ answers < 64 ⌝ }
     ensures { λ a. ⌜ a ≡ pick «now_sent» (answers + 1) answers ⌝ }
-    ensures { λ a. ⌜ now (room .exit) ≡ pick «now_sent» (withAnswer answers number dependence r (now (room .entry))) (now (room .entry)) ⌝ }
+    ensures { λ a. ⌜ now (room .exit) ≡ pick «now_sent» (withAnswer answers own near r (now (room .entry))) (now (room .entry)) ⌝ }
 {
     if now_sent {
-        put_answer(room, answers, number, dependence, r);
+        put_answer(room, answers, own, near, r);
         answers + 1
     } else {
         answers
@@ -108,7 +109,7 @@ pub(crate) fn take_first(
 {
     let at = record::LIVE_WIDTH * (c.first + c.counts.uncommitted);
     let from = record::LIVE_WIDTH * c.first;
-    let number = operations::number_at(live, at as usize);
+    let own = rows::trial_at(live, at);
     let f = record::fragment_at(live, at);
     let r = operations::run_fragment(cells, f);
     let multi = operations::is_multi(f);
@@ -117,7 +118,7 @@ pub(crate) fn take_first(
     let near = rows::nearest_multi(live, from, c.counts.uncommitted);
     let sent = rows::is_answered(c.counts.uncommitted, multi, one);
     let joins = rows::is_joining(c.counts.uncommitted, multi);
-    let answers = answer_if(sent, room, c.answers, number, near, r);
+    let answers = answer_if(sent, room, c.answers, own, near, r);
     join_if(joins, runs, undo, c.sends(answers), !sent, last, r)
 }
 

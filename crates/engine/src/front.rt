@@ -55,7 +55,7 @@ pub(crate) fn continue_front(
         (now (runs .exit)) (now (undo .exit)) (now (room .exit)) (now (cells .exit)) d ⌝ }
     ensures { λ d. ⌜ Kept c d ⌝ }
 {
-    let number = operations::number_at(live, record::LIVE_WORDS * c.first as usize);
+    let own = rows::trial_at(live, record::LIVE_WIDTH * c.first);
     let r = operations::continue_fragment(cells, f, undo, c.entries);
     let ran = operations::number_at(runs, 0);
     let before = rows::least(ran, 7);
@@ -64,7 +64,7 @@ pub(crate) fn continue_front(
     let entries = note_entries(undo, c.entries, r);
     let w = rows::run_row(before + 1, state, 0, entries, 0, 0, [0u32; 8]);
     record::lay(runs, 0, &w, record::RUN_WIDTH);
-    put_answer(room, c.answers, number, 0, r);
+    put_answer(room, c.answers, own, rows::no_trial(), r);
     let counts = c.counts;
     Course {
         counts: counts,

@@ -80,9 +80,9 @@ pub(crate) fn join_waiting(live: &mut [u32], c: Course, number: u32, f: Fragment
     requires { ⌜ c .first + c .counts .uncommitted + c .counts .waiting ≤ 64 ⌝ }
     ensures { λ d. ⌜ d ≡ waitingMore c ⌝ }
     ensures { λ d. ⌜ now (live .exit)
-        ≡ sets (now (live .entry)) (liveWidth * (c .first + c .counts .uncommitted + c .counts .waiting)) (rowWords number f) ⌝ }
+        ≡ sets (now (live .entry)) (liveWidth * (c .first + c .counts .uncommitted + c .counts .waiting)) (rowWords number 1 f) ⌝ }
 {
-    let w = record::row_words(number, f);
+    let w = record::row_words(number, 1, f);
     record::lay(
         live,
         record::LIVE_WIDTH * (c.first + c.counts.uncommitted + c.counts.waiting),
@@ -137,7 +137,7 @@ pub(crate) fn enter(
     if event.kind == 2 {
         return settle::commit(live, runs, undo, room, c);
     }
-    abort::abort(runs, undo, cells, c)
+    abort::abort(live, runs, undo, cells, c)
 }
 
 // An accepted event: its step, and "then drain".

@@ -8,6 +8,7 @@ ghost use Rattle.record.specs.Widths.{runWidth};
 ghost use Rattle.rows.specs.Rows.{holdsRow, heldRow, sentRow};
 ghost use Rattle.model.specs.Operations.{pick};
 use crate::course::Course;
+use rows::Trial;
 
 // The first uncommitted one leaves the queue: its run and its entries, the oldest, are shifted out.
 pub(crate) fn drop_front(runs: &mut [u32], undo: &mut [u32], c: Course) -> Course
@@ -39,17 +40,17 @@ pub(crate) fn put_held(
     answers: u32,
     runs: &[u32],
     i: u32,
-    number: u32,
-    dependence: u32,
+    own: Trial,
+    near: Trial,
 ) -> u32
     requires { ⌜ answers < 64 ⌝ }
     ensures { λ a. ⌜ a ≡ pick (holdsRow (now (runs .entry)) (runWidth * i)) (answers + 1) answers ⌝ }
     ensures { λ a. ⌜ now (room .exit) ≡ pick (holdsRow (now (runs .entry)) (runWidth * i))
-        (sets (now (room .entry)) (answerWords * answers) (heldRow (now (runs .entry)) (runWidth * i) number dependence)) (now (room .entry)) ⌝ }
+        (sets (now (room .entry)) (answerWords * answers) (heldRow (now (runs .entry)) (runWidth * i) own near)) (now (room .entry)) ⌝ }
 {
     let reply = operations::number_at(runs, record::RUN_WORDS * i as usize + 2);
     if reply == 1 {
-        let w = rows::held_row(runs, i, number, dependence);
+        let w = rows::held_row(runs, i, own, near);
         record::lay(room, rows::ANSWER_WIDTH * answers, &w, rows::ANSWER_WIDTH);
         answers + 1
     } else {
@@ -73,8 +74,8 @@ pub(crate) fn settle_one(
         (now (runs .exit)) (now (undo .exit)) (now (room .exit)) d ⌝ }
     ensures { λ d. ⌜ Kept c d ⌝ }
 {
-    let number = operations::number_at(live, record::LIVE_WORDS * c.first as usize);
-    let answers = put_held(room, c.answers, runs, 0, number, 0);
+    let own = rows::trial_at(live, record::LIVE_WIDTH * c.first);
+    let answers = put_held(room, c.answers, runs, 0, own, rows::no_trial());
     let d = drop_front(runs, undo, c);
     d.sends(answers)
 }
@@ -123,7 +124,7 @@ pub(crate) fn release_one(
     room: &mut [u32],
     c: Course,
     i: u32,
-    near: u32,
+    near: Trial,
 ) -> Course
     requires { ⌜ (c .first + i ≤ 64) × (i ≤ 16) × (c .answers < 64) ⌝ }
     ensures { λ d. ⌜ (d ≡ withAnswers (d .answers) c) × (d .answers ≤ c .answers + 1) ⌝ }
@@ -133,8 +134,8 @@ pub(crate) fn release_one(
     if !rows::is_multi_row(live, at) {
         return c;
     }
-    let number = operations::number_at(live, at as usize);
-    let answers = put_held(room, c.answers, runs, i, number, near);
+    let own = rows::trial_at(live, at);
+    let answers = put_held(room, c.answers, runs, i, own, near);
     // most hold nothing
     if answers == c.answers {
         return c;
@@ -154,7 +155,7 @@ pub(crate) fn release(live: &[u32], runs: &mut [u32], room: &mut [u32], from: Co
     let front = record::LIVE_WORDS * from.first as usize;
     let k = operations::number_at(live, front + 2);
     let mut c = from;
-    let mut near: u32 = 0;
+    let mut near = rows::no_trial();
     let mut i: u32 = 0;
     while i < from.counts.uncommitted {
         let at = record::LIVE_WIDTH * (from.first + i);

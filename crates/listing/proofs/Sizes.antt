@@ -35,10 +35,10 @@ length-lines line k h i zero = omega arith
 length-lines line k h i (suc n) =
     omega (arith, mul-suc k n, length-append (line i) (together (linesFrom line (i + 1) n)), h i, length-lines line k h (i + 1) n)
 
-pub length-event : (position number answers : ℕ) (room : List ℕ) → length (together (eventLines position number answers room)) ≤ 24 + 134 * answers
+pub length-event : (position number answers : ℕ) (room : List ℕ) → length (together (eventLines position number answers room)) ≤ 24 + 156 * answers
 unfolding eventLines together
 length-event position number answers room =
-    omega (arith, length-append (lineE position number) (together (answerLines room answers)), length-e position number, length-lines (lineA room) 134 (length-a room) 0 answers)
+    omega (arith, length-append (lineE position number) (together (answerLines room answers)), length-e position number, length-lines (lineA room) 156 (length-a room) 0 answers)
 
 pub length-events : (σ : Scheme) (bytes : List ℕ) (position b n : ℕ) (k : Playing) → length (together (eventsLines σ bytes position b n k)) ≤ mostOfEvent * n
 unfolding eventsLines together

@@ -91,6 +91,6 @@ pub record Put (from : ℕ) (old new : List ℕ) (at p : ℕ) (text : List ℕ) 
   pub place : p ≡ at + length text
   pub bytes : new ≡ shown from old at text
 
--- the most bytes of an event's lines: 24 for its own, 134 for each of its answers
+-- the most bytes of an event's lines: 24 for its own, 156 for each of its answers
 abbrev pub mostOfEvent : ℕ
-mostOfEvent = 24 + 134 * 64
+mostOfEvent = 24 + 156 * 64

@@ -55,9 +55,9 @@ pub(crate) fn put_e(buffer: &mut [u8], from: usize, at: u32, position: u32, numb
     put_line(buffer, from, at, &line, n)
 }
 
-// "then `a` transaction, dependence, place, count and that many numbers for each answer": answer number i of the room.
+// "then `a` transaction, dependence, place, count and that many numbers for each answer", with both attempts: answer number i of the room.
 pub(crate) fn put_a(buffer: &mut [u8], from: usize, at: u32, room: &[u32], i: u32) -> u32
-    requires { ⌜ at + 134 < 4294967296 ⌝ }
+    requires { ⌜ at + 156 < 4294967296 ⌝ }
     ensures { λ r. ⌜ Put from (now (buffer .entry)) (now (buffer .exit)) at r (lineA (now (room .entry)) i) ⌝ }
 {
     let mut line = [0u8; 160];
@@ -95,7 +95,7 @@ pub(crate) fn put_bad_scheme(buffer: &mut [u8], from: usize) -> u32
 
 // The lines of one call's answers, from place `at` on; the place behind them.
 pub(crate) fn put_answers(buffer: &mut [u8], from: usize, at: u32, room: &[u32], count: u32) -> u32
-    requires { ⌜ at + 134 * count < 4294967296 ⌝ }
+    requires { ⌜ at + 156 * count < 4294967296 ⌝ }
     ensures { λ r. ⌜ Put from (now (buffer .entry)) (now (buffer .exit)) at r (together (answerLines (now (room .entry)) count)) ⌝ }
 {
     let mut p = at;
@@ -117,7 +117,7 @@ pub(crate) fn put_event(
     answers: u32,
     room: &[u32],
 ) -> u32
-    requires { ⌜ at + 24 + 134 * answers < 4294967296 ⌝ }
+    requires { ⌜ at + 24 + 156 * answers < 4294967296 ⌝ }
     ensures { λ r. ⌜ Put from (now (buffer .entry)) (now (buffer .exit)) at r (together (eventLines position number answers (now (room .entry)))) ⌝ }
 {
     let p = put_e(buffer, from, at, position, number);

@@ -11,7 +11,7 @@ use lib.ListN.{length}
 use Rattle.model.specs.Limits.{mostCells}
 use Rattle.model.specs.Operations.{Cells, pick}
 use Rattle.model.specs.Transactions.{Sent, Uncommitted, Waiting, Engine, Answer}
-use Rattle.model.specs.Steps.{run, begun, Place, placed, Queues, drain, joined, continued, arrived, settled, committed, requeued, aborted}
+use Rattle.model.specs.Steps.{run, begun, Place, placed, Queues, drain, arrival, joined, continued, arrived, settled, committed, requeued, aborted}
 use Rattle.model.specs.Refusals.{Request, Arrive, Commit, Abort, request, Call, refusal, taken, respond, step, Started, start, empty}
 use Rattle.model.specs.Demand.{Run, onward, runs, fresh}
 use Rattle.model.specs.declared.Fragment.{Fragment}
@@ -42,11 +42,11 @@ drain-alone cs [] (w ∷ ws) h =
     (λ _. let x = drain-alone (run (w .fragment) cs [] .cells) (begun w (run (w .fragment) cs []) Sent ∷ []) ws (omega arith) in record { one = x .one; independent = (refl, x .independent) })
 
 arrived-alone : (n : ℕ) (f : Fragment) (cs : Cells) (us : List Uncommitted) (ws : List Waiting) → length us ≤ 1 → AloneAfter (arrived Blocking n f cs us ws)
-arrived-alone n f cs [] ws h = drain-alone cs [] (ws ++ (record { number = n; fragment = f } ∷ [])) h
+arrived-alone n f cs [] ws h = drain-alone cs [] (ws ++ (arrival n f ∷ [])) h
 arrived-alone n f cs (u ∷ us) ws h = go (eqb (u .number) n)
   where
     go : (b : Bool) → AloneAfter (elim b [ false ↦ joined Blocking n f cs (u ∷ us) ws | true ↦ continued Blocking f cs u us ws ])
-    go false = drain-alone cs (u ∷ us) (ws ++ (record { number = n; fragment = f } ∷ [])) h
+    go false = drain-alone cs (u ∷ us) (ws ++ (arrival n f ∷ [])) h
     go true = let x = drain-alone (run f cs (u .undo) .cells) _ ws h in record { one = x .one; independent = (refl, x .independent) }
 
 -- a front that is alone leaves nobody behind

@@ -7,35 +7,35 @@ use mathlib.Core.List.{List, [], _∷_, _++_}
 use lib.Dec.{eqb}
 use Rattle.model.specs.Operations.{Cells, Outcome, multi}
 use Rattle.model.specs.Transactions.{Reply, Held, Sent, NoReply, holds, Uncommitted, Waiting, Answer, answer}
-use Rattle.model.specs.Steps.{Ran, run, begun, oneCoordinator, nearest, mayTake, Place, placed, Queues, sending, drain, heldWith, heldBy, sent, released, settled}
+use Rattle.model.specs.Steps.{Ran, run, begun, oneCoordinator, nearest, nearestAttempt, mayTake, Place, placed, Queues, sending, drain, heldWith, heldBy, sent, released, settled}
 use Rattle.model.specs.Refusals.{Request, Arrive, Commit, Abort, request}
 use Rattle.model.specs.declared.Event.{Event}
 use Rattle.model.specs.declared.Scheme.{Scheme}
 use Rattle.model.proofs.Tests.{and-left}
 
 module _ (P : Place → Type 0) where
-  pub placed-idle : (w : Waiting) (r : Ran) → (multi (w .fragment) ≡ false → P (record { uncommitted = []; answers = answer (w .number) 0 (r .outcome) ∷ []; settles = w .number ∷ [] }))
-      → (multi (w .fragment) ≡ true → P (record { uncommitted = begun w r Sent ∷ []; answers = answer (w .number) 0 (r .outcome) ∷ []; settles = [] })) → P (placed [] w r)
+  pub placed-idle : (w : Waiting) (r : Ran) → (multi (w .fragment) ≡ false → P (record { uncommitted = []; answers = answer (w .number) 0 (w .attempt) 0 (r .outcome) ∷ []; settles = w .number ∷ [] }))
+      → (multi (w .fragment) ≡ true → P (record { uncommitted = begun w r Sent ∷ []; answers = answer (w .number) 0 (w .attempt) 0 (r .outcome) ∷ []; settles = [] })) → P (placed [] w r)
   unfolding placed
   placed-idle w r single several = go (multi (w .fragment)) refl
     where
       go : (b : Bool) → multi (w .fragment) ≡ b
           → P (elim b [
-            | false ↦ record { uncommitted = []; answers = answer (w .number) 0 (r .outcome) ∷ []; settles = w .number ∷ [] }
-            | true ↦ record { uncommitted = begun w r Sent ∷ []; answers = answer (w .number) 0 (r .outcome) ∷ []; settles = [] }
+            | false ↦ record { uncommitted = []; answers = answer (w .number) 0 (w .attempt) 0 (r .outcome) ∷ []; settles = w .number ∷ [] }
+            | true ↦ record { uncommitted = begun w r Sent ∷ []; answers = answer (w .number) 0 (w .attempt) 0 (r .outcome) ∷ []; settles = [] }
           ])
       go false e = single e
       go true e = several e
 
   pub placed-behind : (u : Uncommitted) (us : List Uncommitted) (w : Waiting) (r : Ran) → P (record { uncommitted = u ∷ us ++ (begun w r (Held (r .outcome)) ∷ []); answers = []; settles = [] })
-      → (multi (w .fragment) ≡ true → P (record { uncommitted = u ∷ us ++ (begun w r Sent ∷ []); answers = answer (w .number) (nearest 0 (u ∷ us)) (r .outcome) ∷ []; settles = [] })) → P (placed (u ∷ us) w r)
+      → (multi (w .fragment) ≡ true → P (record { uncommitted = u ∷ us ++ (begun w r Sent ∷ []); answers = answer (w .number) (nearest 0 (u ∷ us)) (w .attempt) (nearestAttempt 0 (u ∷ us)) (r .outcome) ∷ []; settles = [] })) → P (placed (u ∷ us) w r)
   unfolding placed
   placed-behind u us w r held now-sent = go (multi (w .fragment) && oneCoordinator (w .fragment .coordinator) (u ∷ us)) refl
     where
       go : (b : Bool) → (multi (w .fragment) && oneCoordinator (w .fragment .coordinator) (u ∷ us)) ≡ b
           → P (elim b [
             | false ↦ record { uncommitted = u ∷ us ++ (begun w r (Held (r .outcome)) ∷ []); answers = []; settles = [] }
-            | true ↦ record { uncommitted = u ∷ us ++ (begun w r Sent ∷ []); answers = answer (w .number) (nearest 0 (u ∷ us)) (r .outcome) ∷ []; settles = [] }
+            | true ↦ record { uncommitted = u ∷ us ++ (begun w r Sent ∷ []); answers = answer (w .number) (nearest 0 (u ∷ us)) (w .attempt) (nearestAttempt 0 (u ∷ us)) (r .outcome) ∷ []; settles = [] }
           ])
       go false e = held
       go true e = now-sent (and-left (multi (w .fragment)) (oneCoordinator (w .fragment .coordinator) (u ∷ us)) e)
@@ -43,7 +43,7 @@ module _ (P : Place → Type 0) where
   -- one of those behind the front: it stays as it is, or it is a multi and released; the rest comes after it
   pub released-cases : (ahead : List Uncommitted) (u : Uncommitted) (us : List Uncommitted)
       → P (record { uncommitted = u ∷ released (ahead ++ (u ∷ [])) us .uncommitted; answers = released (ahead ++ (u ∷ [])) us .answers; settles = [] })
-      → (multi (u .first) ≡ true → P (record { uncommitted = sent u ∷ released (ahead ++ (u ∷ [])) us .uncommitted; answers = heldWith (nearest 0 ahead) u ++ released (ahead ++ (u ∷ [])) us .answers; settles = [] }))
+      → (multi (u .first) ≡ true → P (record { uncommitted = sent u ∷ released (ahead ++ (u ∷ [])) us .uncommitted; answers = heldWith (nearest 0 ahead) (nearestAttempt 0 ahead) u ++ released (ahead ++ (u ∷ [])) us .answers; settles = [] }))
       → P (released ahead (u ∷ us))
   unfolding released
   released-cases ahead u us stays goes = go (multi (u .first)) _ refl
@@ -51,7 +51,7 @@ module _ (P : Place → Type 0) where
       go : (a b : Bool) → multi (u .first) ≡ a
           → P (elim (a && b) [
             | false ↦ record { uncommitted = u ∷ released (ahead ++ (u ∷ [])) us .uncommitted; answers = released (ahead ++ (u ∷ [])) us .answers; settles = [] }
-            | true ↦ record { uncommitted = sent u ∷ released (ahead ++ (u ∷ [])) us .uncommitted; answers = heldWith (nearest 0 ahead) u ++ released (ahead ++ (u ∷ [])) us .answers; settles = [] }
+            | true ↦ record { uncommitted = sent u ∷ released (ahead ++ (u ∷ [])) us .uncommitted; answers = heldWith (nearest 0 ahead) (nearestAttempt 0 ahead) u ++ released (ahead ++ (u ∷ [])) us .answers; settles = [] }
           ])
       go false b e = stays
       go true false e = stays
@@ -86,10 +86,10 @@ drain-cases P σ cs us w ws stays takes = go (mayTake σ us) refl
     go false e = stays e
     go true e = takes e
 
-pub held-cases : (P : List Answer → Type 0) (d : ℕ) (u : Uncommitted) → ((o : Outcome) → u .reply ≡ Held o → P (answer (u .number) d o ∷ [])) → (holds (u .reply) ≡ false → P []) → P (heldWith d u)
-held-cases P d u held none = go (u .reply) refl (λ e. none e)
+pub held-cases : (P : List Answer → Type 0) (d b : ℕ) (u : Uncommitted) → ((o : Outcome) → u .reply ≡ Held o → P (answer (u .number) d (u .attempt) b o ∷ [])) → (holds (u .reply) ≡ false → P []) → P (heldWith d b u)
+held-cases P d b u held none = go (u .reply) refl (λ e. none e)
   where
-    go : (a : Reply) → u .reply ≡ a → (holds a ≡ false → P []) → P (elim a [ Held o ↦ answer (u .number) d o ∷ [] | Sent ↦ [] | NoReply ↦ [] ])
+    go : (a : Reply) → u .reply ≡ a → (holds a ≡ false → P []) → P (elim a [ Held o ↦ answer (u .number) d (u .attempt) b o ∷ [] | Sent ↦ [] | NoReply ↦ [] ])
     go (Held o) e n = held o e
     go Sent e n = n refl
     go NoReply e n = n refl

@@ -12,10 +12,10 @@ use lib.Seq.{take-at}
 use Rattle.model.specs.Operations.{Cells, Outcome, multi, told, pick}
 use Rattle.model.specs.Limits.{mostCells}
 use Rattle.model.specs.Transactions.{front, Uncommitted, Waiting, Answer, answer, Engine, numbers, finished}
-use Rattle.model.specs.Steps.{Queues, joined, continued, arrived}
-use Rattle.model.specs.Refusals.{Request, Arrive, Commit, Abort, request, Call, live, new, isFront, refusal, taken, largestAfter, respond, step, settlesBy, settlesIn, Started, start, empty}
+use Rattle.model.specs.Steps.{Queues, arrival, joined, continued, arrived}
+use Rattle.model.specs.Refusals.{Request, Arrive, Commit, Abort, request, sound, Call, live, new, isFront, refusal, taken, largestAfter, respond, step, settlesBy, settlesIn, Started, start, empty}
 use Rattle.model.specs.Serial.{Tx, Decision, Open, Committed, Aborted, attempt, effect, serial}
-use Rattle.model.specs.Demand.{SettlingOrder, QueueOrder, numbersOf, Log, isLogged, at, extended, decided, logged, noticed, kept, Run, onward, runs, fresh, Lends, AllLend, Standing, Settles, Gone, Undecided, standing, settledOf, liveOf, uncommittedTx, CellsHold, Gives, PlainRight, NoAbort, DependentRight, Demand3}
+use Rattle.model.specs.Demand.{SettlingOrder, QueueOrder, numbersOf, Log, isLogged, at, extended, decided, logged, noticed, kept, Run, onward, runs, fresh, Lends, AllLend, Standing, Settles, Gone, Undecided, standing, settledOf, liveOf, uncommittedTx, CellsHold, Gives, PlainRight, frontAttempt, lastAttempt, sentIn, NoAbort, DependentRight, SeenRight, UndisturbedRight, Demand3}
 use Rattle.model.specs.declared.Event.{Event}
 use Rattle.model.specs.declared.Fragment.{Fragment}
 use Rattle.model.specs.declared.Scheme.{Scheme}
@@ -26,6 +26,8 @@ use Rattle.model.proofs.Settling.{log-front, rises-log-front, Got, comm
 use Rattle.model.proofs.Replying.{Went, went-none}
 use Rattle.model.proofs.Branches.{request-cases}
 use Rattle.model.proofs.Passing.{passed, took, front-or-new, and-if, decides-front}
+use Rattle.model.proofs.Kept.{step-keeps, runs-sound}
+use Rattle.model.proofs.Attempts.{ExactlyIn, RaisedIn, exactly-runs, undisturbed-or-raised, front-exactly, not-raised, Named, step-named, front-told}
 use Rattle.model.specs.Parts.{All, Passed}
 
 -- Between two calls; as′: answers that depend and were sent since the last accepted abort
@@ -76,7 +78,7 @@ module _ (σ : Scheme) (cs₀ : Cells) (ct top : ℕ) (ws : List Waiting) (cs : 
       got-cast cs₀ l (l ++ record { number = n; first = f; more = []; decision = Open } ∷ []) (logged (Arrive n f) l) n (elim (ltb top n) [ true ↦ n | false ↦ top ]) as′ (joined σ n f cs us ws)
       (sym (ap {B = Log} (λ (b : Bool). elim b [ true ↦ at n (extended f) l | false ↦ l ++ record { number = n; first = f; more = []; decision = Open } ∷ [] ]) (known-new 0 top n l k rises)))
       (sym (ap {B = ℕ} (λ (b : Bool). elim b [ true ↦ n | false ↦ top ]) e))
-      (new-inv σ cs₀ top l rises cs us ws as′ (record { number = n; fragment = f }) i idle k)
+      (new-inv σ cs₀ top l rises cs us ws as′ (arrival n f) i idle k)
     where
       k : top < n
       k = ltb-true top n e
@@ -325,9 +327,10 @@ commits v n h = go (eqb (v .kind) 1) (eqb (v .kind) 2) h
     go false true e = (refl, cc)
     go false false e = let x : _≡_ {A = ℕ} 0 1 = cc in absurd (omega arith)
 
-dependent-right : (cs₀ : Cells) (calls : List Call) → AllLend (fresh cs₀) calls → (c : Call) → Lends (runs (fresh cs₀) calls) c → (between : List Call)
-    → AllLend (onward (runs (fresh cs₀) calls) c) between → (d : Call) → DependentRight cs₀ (runs (fresh cs₀) calls) c between d
-dependent-right cs₀ calls k c j between b d a m z q ev ok =
+-- what 01 says of it: no abort was accepted between the answer and the commit
+pub undisturbed-right : (cs₀ : Cells) (calls : List Call) → AllLend (fresh cs₀) calls → (c : Call) → Lends (runs (fresh cs₀) calls) c → (between : List Call)
+    → AllLend (onward (runs (fresh cs₀) calls) c) between → (d : Call) → UndisturbedRight cs₀ (runs (fresh cs₀) calls) c between d
+undisturbed-right cs₀ calls k c j between b d a m z q ev ok =
     subst (λ (x : Log). Gives cs₀ (a .number) x (a .outcome)) (sym (ap (λ (k : ℕ). noticed k (request (d .event)) (R .log)) ok ∙ ap (λ (v : Request). noticed 0 v (R .log)) ev))
     (depend-commit cs₀ (R .engine .count) (R .engine .largest) (R .engine .uncommitted) (R .engine .waiting) (R .cells) (R .log) (step (r .engine) c .answers ++ f .0) (f .1 .inv) (f .1 .rises) a z
     (all-mem (Followed 0 (f .1 .inv .past) (f .1 .inv .base) (f .1 .inv .more) (R .engine .uncommitted)) (step (r .engine) c .answers ++ f .0) (f .1 .inv .followed) a (Memᴰ·append-left (f .0) m))
@@ -346,6 +349,58 @@ dependent-right cs₀ calls k c j between b d a m z q ev ok =
     x : (eqb (d .event .kind) 1 ≡ false) × (d .event .number ≡ a .dependence)
     x = commits (d .event) (a .dependence) ev
 
+-- In which attempt D commits. A commit is for the front.
+commits-front : (e : Engine) (d : Call) (n : ℕ) → request (d .event) ≡ Commit n → step e d .number ≡ 0 → isFront n e ≡ true
+commits-front e d n ev ok = let x = commits (d .event) n ev in subst (λ (m : ℕ). isFront m e ≡ true) (x .1) (decides-front e d (x .0) (passed e d (took e d ok)))
+
+-- c sends a, which depends on D = a .dependence
+module _ (cs₀ : Cells) (calls : List Call) (c : Call) (a : Answer) (m : List·Memᴰ a (step (runs (fresh cs₀) calls .engine) c .answers)) (z : a .dependence ≡ 0 → ⊥) where
+  abbrev sender : Run
+  sender = runs (fresh cs₀) calls
+
+  sounds : sound (onward sender c .engine) ≡ true
+  sounds = step-keeps (sender .engine) c (runs-sound cs₀ calls) .sound
+
+  -- then D runs, in the attempt that a names
+  named : ExactlyIn (a .dependence) (a .dependenceAttempt) (onward sender c .engine)
+  named =
+      let e : Engine = onward sender c .engine in
+      all-mem (Named (e .largest) (e .uncommitted) (e .waiting)) (step (sender .engine) c .answers) (step-named (sender .engine) c) a m z
+
+  -- d commits it
+  module _ (between : List Call) (d : Call) (ev : request (d .event) ≡ Commit (a .dependence)) (ok : step (runs (onward sender c) between .engine) d .number ≡ 0) where
+    abbrev committer : Engine
+    committer = runs (onward sender c) between .engine
+
+    is : isFront (a .dependence) committer ≡ true
+    is = commits-front committer d (a .dependence) ev ok
+
+    -- where no abort was accepted between, D commits in that very attempt
+    pub undisturbed-attempt : NoAbort (onward sender c) between → frontAttempt (committer .uncommitted) ≡ a .dependenceAttempt
+    undisturbed-attempt q = front-exactly (a .dependence) (a .dependenceAttempt) committer is (exactly-runs (a .dependence) (a .dependenceAttempt) (onward sender c) between sounds q named)
+
+    -- and only there
+    pub attempt-undisturbed : frontAttempt (committer .uncommitted) ≡ a .dependenceAttempt → NoAbort (onward sender c) between
+    attempt-undisturbed e = go (undisturbed-or-raised (a .dependence) (a .dependenceAttempt) (onward sender c) between sounds named)
+      where
+        go : NoAbort (onward sender c) between ⊎ RaisedIn (a .dependence) (a .dependenceAttempt) committer → NoAbort (onward sender c) between
+        go (inl q) = q
+        go (inr t) = absurd (not-raised (a .dependence) (a .dependenceAttempt) committer is e t)
+
+    -- the last answer sent for D carries the attempt in which it commits
+    pub seen-attempt : frontAttempt (committer .uncommitted) ≡ lastAttempt (a .dependence) 0 (sentIn (fresh cs₀) calls ++ sentIn sender (c ∷ between))
+    seen-attempt = front-told cs₀ calls (c ∷ between) (a .dependence) is
+
+-- "right if D commits in that very attempt" (02, L2)
+dependent-right : (cs₀ : Cells) (calls : List Call) → AllLend (fresh cs₀) calls → (c : Call) → Lends (runs (fresh cs₀) calls) c → (between : List Call)
+    → AllLend (onward (runs (fresh cs₀) calls) c) between → (d : Call) → DependentRight cs₀ (runs (fresh cs₀) calls) c between d
+dependent-right cs₀ calls k c j between b d a m z ev ok e = undisturbed-right cs₀ calls k c j between b d a m z (attempt-undisturbed cs₀ calls c a m z between d ev ok e) ev ok
+
+-- the same, by what a coordinator sees
+seen-right : (cs₀ : Cells) (calls : List Call) → AllLend (fresh cs₀) calls → (c : Call) → Lends (runs (fresh cs₀) calls) c → (between : List Call)
+    → AllLend (onward (runs (fresh cs₀) calls) c) between → (d : Call) → SeenRight cs₀ (runs (fresh cs₀) calls) (sentIn (fresh cs₀) calls) c between d
+seen-right cs₀ calls k c j between b d a m z ev ok e = dependent-right cs₀ calls k c j between b d a m z ev ok (seen-attempt cs₀ calls c a m z between d ev ok ∙ e)
+
 pub demand3 : (cs : Cells) → Demand3 cs
 demand3 cs = record {
   cells = λ calls d. whole-cells cs (runs (fresh cs) calls) [] (reached cs calls d);
@@ -360,4 +415,5 @@ demand3 cs = record {
   plain = λ calls d c k a m e.
       all-mem (Plain cs (onward (runs (fresh cs) calls) c .log)) (step (runs (fresh cs) calls .engine) c .answers) (reaches cs calls d c k .plain) a m e;
   dependent = dependent-right cs;
+  seen = seen-right cs;
 }

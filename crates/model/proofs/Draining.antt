@@ -10,7 +10,7 @@ use lib.ListN.{length}
 use Rattle.model.specs.Limits.{depth}
 use Rattle.model.specs.Operations.{Cells, Outcome, multi, operations, trial, told}
 use Rattle.model.specs.Transactions.{Reply, Held, Sent, holds, Uncommitted, Waiting, Answer, answer}
-use Rattle.model.specs.Steps.{Ran, run, begun, oneCoordinator, nearest, lastFinished, mayTake, Queues, sending, Place, placed, drain}
+use Rattle.model.specs.Steps.{Ran, run, begun, oneCoordinator, nearest, nearestAttempt, lastFinished, mayTake, Queues, sending, Place, placed, drain}
 use Rattle.model.specs.Serial.{Tx, Decision, Open, Committed, Aborted, attempt, effect, serial}
 use Rattle.model.specs.Demand.{Log, Standing, Settles, Gone, Undecided, standing, settledOf, Gives}
 use Rattle.model.specs.declared.Fragment.{Fragment}
@@ -67,10 +67,10 @@ module _ (cs₀ : Cells) (top : ℕ) (l : Log) (rises : InOrder 0 top l) where
     r : Ran
     r = run (w .fragment) cs []
 
-    plain-first : Plain cs₀ l (answer (w .number) 0 (run (w .fragment) cs [] .outcome))
+    plain-first : Plain cs₀ l (answer (w .number) 0 (w .attempt) 0 (run (w .fragment) cs [] .outcome))
     plain-first h = gives-at cs₀ top l (i .past) (asTx w) (map asTx ws) (run (w .fragment) cs [] .outcome) rises (i .split) (tells-at w cs (serial (settledOf (i .past)) cs₀) (i .based ∙ i .chain))
 
-    settles-at-once : multi (w .fragment) ≡ false → Onto cs₀ l (i .past) (run (w .fragment) cs [] .cells) [] ws as′ (answer (w .number) 0 (run (w .fragment) cs [] .outcome) ∷ []) (w .number ∷ [])
+    settles-at-once : multi (w .fragment) ≡ false → Onto cs₀ l (i .past) (run (w .fragment) cs [] .cells) [] ws as′ (answer (w .number) 0 (w .attempt) 0 (run (w .fragment) cs [] .outcome) ∷ []) (w .number ∷ [])
     settles-at-once e = (
       record {
         past = i .past ++ asTx w ∷ [];
@@ -82,19 +82,19 @@ module _ (cs₀ : Cells) (top : ℕ) (l : Log) (rises : InOrder 0 top l) where
         chain = refl;
         ready = tt;
         multi = tt;
-        followed = all-append (Followed 0 (i .past ++ asTx w ∷ []) (run (w .fragment) cs [] .cells) [] []) as′ (answer (w .number) 0 (run (w .fragment) cs [] .outcome) ∷ [])
+        followed = all-append (Followed 0 (i .past ++ asTx w ∷ []) (run (w .fragment) cs [] .cells) [] []) as′ (answer (w .number) 0 (w .attempt) 0 (run (w .fragment) cs [] .outcome) ∷ [])
             (all-map (Followed 0 (i .past) (i .base) (i .more) []) (Followed 0 (i .past ++ asTx w ∷ []) (run (w .fragment) cs [] .cells) [] [])
             (λ a t. followed-idle 0 (i .past) (asTx w ∷ []) (i .base) (run (w .fragment) cs [] .cells) (i .more) [] [] a t) as′ (i .followed))
             ((λ h. absurd (h refl)), tt);
       },
-      went-settles cs₀ top l (i .past) (asTx w) (map asTx ws) (answer (w .number) 0 (run (w .fragment) cs [] .outcome)) rises (i .split) (i .closed) st e
-          (ap (answer (w .number) 0) (tells-at w cs (serial (settledOf (i .past)) cs₀) (i .based ∙ i .chain))),
+      went-settles cs₀ top l (i .past) (asTx w) (map asTx ws) (answer (w .number) 0 (w .attempt) 0 (run (w .fragment) cs [] .outcome)) rises (i .split) (i .closed) st e
+          (ap (answer (w .number) 0 0 0) (tells-at w cs (serial (settledOf (i .past)) cs₀) (i .based ∙ i .chain))),
     )
       where
         st : standing (asTx w) ≡ Settles
         st = ap {B = Standing} (λ (b : Bool). elim b [ false ↦ Settles | true ↦ Undecided ]) e
 
-    becomes-front : multi (w .fragment) ≡ true → Onto cs₀ l (i .past) (run (w .fragment) cs [] .cells) (begun w (run (w .fragment) cs []) Sent ∷ []) ws as′ (answer (w .number) 0 (run (w .fragment) cs [] .outcome) ∷ []) []
+    becomes-front : multi (w .fragment) ≡ true → Onto cs₀ l (i .past) (run (w .fragment) cs [] .cells) (begun w (run (w .fragment) cs []) Sent ∷ []) ws as′ (answer (w .number) 0 (w .attempt) 0 (run (w .fragment) cs [] .outcome) ∷ []) []
     becomes-front e = (
       record {
         past = i .past;
@@ -106,12 +106,12 @@ module _ (cs₀ : Cells) (top : ℕ) (l : Log) (rises : InOrder 0 top l) where
         chain = begun-entry w cs Sent (λ o h. sent-is-not-held o _ h) (ap (λ (b : Bool). b || false) e);
         ready = tt;
         multi = e;
-        followed = all-append (Followed 0 (i .past) cs [] (begun w (run (w .fragment) cs []) Sent ∷ [])) as′ (answer (w .number) 0 (run (w .fragment) cs [] .outcome) ∷ [])
+        followed = all-append (Followed 0 (i .past) cs [] (begun w (run (w .fragment) cs []) Sent ∷ [])) as′ (answer (w .number) 0 (w .attempt) 0 (run (w .fragment) cs [] .outcome) ∷ [])
             (all-map (Followed 0 (i .past) (i .base) (i .more) []) (Followed 0 (i .past) cs [] (begun w (run (w .fragment) cs []) Sent ∷ []))
             (λ a t. rw (← append-nil (i .past)) (followed-idle 0 (i .past) [] (i .base) cs (i .more) [] (begun w (run (w .fragment) cs []) Sent ∷ []) a t)) as′ (i .followed))
             ((λ h. absurd (h refl)), tt);
       },
-      went-multi cs₀ top l (i .past) (i .past) (asTx w) (map asTx ws) (answer (w .number) 0 (run (w .fragment) cs [] .outcome)) (i .past) rises (i .split) e refl refl,
+      went-multi cs₀ top l (i .past) (i .past) (asTx w) (map asTx ws) (answer (w .number) 0 (w .attempt) 0 (run (w .fragment) cs [] .outcome)) (i .past) rises (i .split) e refl refl,
     )
 
   -- Behind the last of the uncommitted ones
@@ -147,8 +147,8 @@ module _ (cs₀ : Cells) (top : ℕ) (l : Log) (rises : InOrder 0 top l) where
 
     -- one that is answered with a dependence
     joins-answered : multi (w .fragment) ≡ true → Onto cs₀ l (i .past) (run (w .fragment) cs [] .cells) (u ∷ us ++ (begun w (run (w .fragment) cs []) Sent ∷ [])) ws as′
-        (answer (w .number) (nearest 0 (u ∷ us)) (run (w .fragment) cs [] .outcome) ∷ []) []
-    joins-answered e = joins Sent (λ o h. sent-is-not-held o _ h) (ap (λ (b : Bool). b || false) e) (answer (w .number) (nearest 0 (u ∷ us)) (run (w .fragment) cs [] .outcome) ∷ []) (
+        (answer (w .number) (nearest 0 (u ∷ us)) (w .attempt) (nearestAttempt 0 (u ∷ us)) (run (w .fragment) cs [] .outcome) ∷ []) []
+    joins-answered e = joins Sent (λ o h. sent-is-not-held o _ h) (ap (λ (b : Bool). b || false) e) (answer (w .number) (nearest 0 (u ∷ us)) (w .attempt) (nearestAttempt 0 (u ∷ us)) (run (w .fragment) cs [] .outcome) ∷ []) (
       (λ h. inl (record {
         ahead = lives (i .more) (u ∷ us);
         it = asTx w;
@@ -159,10 +159,10 @@ module _ (cs₀ : Cells) (top : ℕ) (l : Log) (rises : InOrder 0 top l) where
         foretells = tells-at w cs (serial (lives (i .more) (u ∷ us)) (i .base)) (chain-cells (i .base) (i .more) (u ∷ us) cs (i .chain));
       })),
       tt,
-    ) (went-multi cs₀ top l (i .past ++ lives (i .more) (u ∷ us)) (i .past) (asTx w) (map asTx ws) (answer (w .number) (nearest 0 (u ∷ us)) (run (w .fragment) cs [] .outcome)) (i .past) rises
+    ) (went-multi cs₀ top l (i .past ++ lives (i .more) (u ∷ us)) (i .past) (asTx w) (map asTx ws) (answer (w .number) (nearest 0 (u ∷ us)) (w .attempt) (nearestAttempt 0 (u ∷ us)) (run (w .fragment) cs [] .outcome)) (i .past) rises
         (i .split ∙ sym (append-assoc (i .past) (lives (i .more) (u ∷ us)) (asTx w ∷ map asTx ws))) e refl refl)
 
-    plain-answered : Plain cs₀ l (answer (w .number) (nearest 0 (u ∷ us)) (run (w .fragment) cs [] .outcome))
+    plain-answered : Plain cs₀ l (answer (w .number) (nearest 0 (u ∷ us)) (w .attempt) (nearestAttempt 0 (u ∷ us)) (run (w .fragment) cs [] .outcome))
     plain-answered z = absurd (nearest-front top (i .more) u us (map asTx (w ∷ ws)) (i .multi)
         (rises-drop 0 top (i .past) (lives (i .more) (u ∷ us) ++ map asTx (w ∷ ws)) (subst (λ (x : Log). InOrder 0 top x) (i .split) rises)) z)
 

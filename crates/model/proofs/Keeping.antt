@@ -9,8 +9,8 @@ use lib.Dec.{leb, ltb, eqb}
 use lib.ListN.{length, take, length-append, length-map, length-take}
 use Rattle.model.specs.Limits.{mostOperations, mostFragments, depth, mostLive}
 use Rattle.model.specs.Operations.{Cells, Outcome, operate, put, writes, content, multi, last, operations, tells}
-use Rattle.model.specs.Transactions.{State, Running, Finished, Failed, finished, Reply, Held, Sent, NoReply, holds, Uncommitted, Waiting, numbers, Answer, answer, front}
-use Rattle.model.specs.Steps.{noted, Ran, runFrom, run, stateAfter, begun, again, oneCoordinator, nearest, lastFinished, mayTake, Place, placed, Queues, sending, drain, joined, continued, heldBy, sent, released, settled, committed, requeued, aborted, undone}
+use Rattle.model.specs.Transactions.{State, Running, Finished, Failed, finished, Reply, Held, Sent, NoReply, holds, Uncommitted, Waiting, numbers, attempts, Answer, answer, front}
+use Rattle.model.specs.Steps.{noted, Ran, runFrom, run, stateAfter, begun, again, oneCoordinator, nearest, nearestAttempt, lastFinished, mayTake, Place, placed, Queues, sending, drain, arrival, joined, continued, heldBy, sent, released, settled, committed, requeued, aborted, undone}
 use Rattle.model.specs.Refusals.{every, inside, formed, storable, behind, ready, fits, isState, isReply}
 use Rattle.model.specs.Demand.{Rises}
 use Rattle.model.specs.declared.Op.{Op}
@@ -23,7 +23,7 @@ use Rattle.model.proofs.Tests.{both, and-left, and-right, or-left, or-r
 use Rattle.model.proofs.Taking.{may-less, may-finished}
 use Rattle.model.proofs.Branches.{placed-idle, placed-behind, settled-cases, drain-cases}
 use Rattle.model.proofs.Releasing.{released-keeps, released-length, released-all, held-one, released-most}
-use Rattle.model.specs.Parts.{All, cellInside, SoundOne, Stored, badFront, Sound}
+use Rattle.model.specs.Parts.{All, cellInside, SoundOne, Stored, badFront, Ahead, Sound}
 
 -- What a run leaves
 
@@ -127,6 +127,10 @@ pub rises-weaken : (m n top : ℕ) (l : List ℕ) → m ≤ n → Rises n top l 
 rises-weaken m n top [] k h = omega arith
 rises-weaken m n top (x ∷ l) k h = (omega arith, h .1)
 
+pub rises-top : (n top : ℕ) (l : List ℕ) → Rises n top l → n ≤ top
+rises-top n top [] h = h
+rises-top n top (x ∷ l) h = let y : x ≤ top = rises-top x top l (h .1) in omega (arith, h .0)
+
 pub rises-more : (n top m : ℕ) (l : List ℕ) → top < m → Rises n top l → Rises n m (l ++ (m ∷ []))
 rises-more n top m [] k h = (omega arith, omega arith)
 rises-more n top m (x ∷ l) k h = (h .0, rises-more x top m l k (h .1))
@@ -163,6 +167,47 @@ ready-sent [] = refl
 ready-sent (u ∷ []) = refl
 ready-sent (u ∷ v ∷ us) = ap (λ (b : Bool). finished (u .state) && b) (ready-sent (v ∷ us))
 
+-- Attempts of the queues: the same way, and fewer ahead is no harm
+
+abbrev Tried : List ℕ → Type 0
+Tried l = All (λ (a : ℕ). 1 ≤ a) l
+
+ahead-less : (i : ℕ) (l : List ℕ) → Ahead (1 + i) l → Ahead i l
+ahead-less i [] h = tt
+ahead-less i (a ∷ l) h = (omega (arith, h .0), ahead-less (1 + i) l (h .1))
+
+attempts-snoc : (us : List Uncommitted) (w : Waiting) (ws : List Waiting) (v : Uncommitted) → v .attempt ≡ w .attempt → attempts (us ++ (v ∷ [])) ws ≡ attempts us (w ∷ ws)
+attempts-snoc [] w ws v e = ap {B = List ℕ} (λ (n : ℕ). n ∷ map (λ (w : Waiting). w .attempt) ws) e
+attempts-snoc (u ∷ us) w ws v e = ap {B = List ℕ} (λ (l : List ℕ). u .attempt ∷ l) (attempts-snoc us w ws v e)
+
+attempts-more : (us : List Uncommitted) (ws : List Waiting) (w : Waiting) → attempts us (ws ++ (w ∷ [])) ≡ attempts us ws ++ (w .attempt ∷ [])
+attempts-more [] [] w = refl
+attempts-more [] (v ∷ ws) w = ap {B = List ℕ} (λ (l : List ℕ). v .attempt ∷ l) (attempts-more [] ws w)
+attempts-more (u ∷ us) ws w = ap {B = List ℕ} (λ (l : List ℕ). u .attempt ∷ l) (attempts-more us ws w)
+
+attempts-sent : (ws : List Waiting) (us : List Uncommitted) → attempts (map sent us) ws ≡ attempts us ws
+attempts-sent ws [] = refl
+attempts-sent ws (u ∷ us) = ap {B = List ℕ} (λ (l : List ℕ). u .attempt ∷ l) (attempts-sent ws us)
+
+attempts-length : (us : List Uncommitted) (ws : List Waiting) → length (attempts us ws) ≡ length us + length ws
+attempts-length [] [] = refl
+attempts-length [] (w ∷ ws) = omega (arith, attempts-length [] ws)
+attempts-length (u ∷ us) ws = omega (arith, attempts-length us ws)
+
+-- one more at the end, in its first attempt
+ahead-more : (i : ℕ) (l : List ℕ) → i + length l < mostLive → Ahead i l → Ahead i (l ++ (1 ∷ []))
+ahead-more i [] k h = (omega arith, tt)
+ahead-more i (a ∷ l) k h = (h .0, ahead-more (1 + i) l (omega arith) (h .1))
+
+-- "Each undoing removes a transaction ahead": one attempt more and one fewer ahead
+ahead-requeued : (i : ℕ) (us : List Uncommitted) (ws : List Waiting) → Ahead (1 + i) (attempts us ws) → Ahead i (attempts [] (map requeued us ++ ws))
+ahead-requeued i [] ws h = ahead-less i (attempts [] ws) h
+ahead-requeued i (u ∷ us) ws h = (omega (arith, h .0), ahead-requeued (1 + i) us ws (h .1))
+
+tried-requeued : (us : List Uncommitted) (ws : List Waiting) → Tried (attempts us ws) → Tried (attempts [] (map requeued us ++ ws))
+tried-requeued [] ws h = h
+tried-requeued (u ∷ us) ws h = (omega arith, tried-requeued us ws (h .1))
+
 -- Drain
 
 -- take the first waiting one and run it
@@ -175,6 +220,8 @@ placed-sound σ ct top [] w ws cs m s = placed-idle (λ (p : Place). Sound ct to
         sixteen = omega arith;
         sixtyFour = omega (arith, s .sixtyFour);
         rises = rises-weaken 0 (w .number) top (numbers [] ws) (omega arith) (s .rises .1);
+        tried = s .tried .1;
+        ahead = ahead-less 0 (attempts [] ws) (s .ahead .1);
         each = tt;
         waiting = s .waiting .1;
         ones = tt;
@@ -189,6 +236,8 @@ placed-sound σ ct top [] w ws cs m s = placed-idle (λ (p : Place). Sound ct to
         sixteen = omega arith;
         sixtyFour = omega (arith, s .sixtyFour);
         rises = s .rises;
+        tried = s .tried;
+        ahead = s .ahead;
         each = (begun-sound ct w cs Sent (s .waiting .0) refl refl (ap (λ (b : Bool). b || false) e), tt);
         waiting = s .waiting .1;
         ones = tt;
@@ -216,6 +265,8 @@ placed-sound σ ct top (u ∷ us) w ws cs m s =
       sixteen = omega (arith, less, length-append (u ∷ us) (begun w (run (w .fragment) cs []) a ∷ []));
       sixtyFour = omega (arith, s .sixtyFour, length-append (u ∷ us) (begun w (run (w .fragment) cs []) a ∷ []));
       rises = subst (λ (l : List ℕ). Rises 0 top l) (sym (numbers-snoc (u ∷ us) w ws (begun w (run (w .fragment) cs []) a) refl)) (s .rises);
+      tried = subst Tried (sym (attempts-snoc (u ∷ us) w ws (begun w (run (w .fragment) cs []) a) refl)) (s .tried);
+      ahead = subst (Ahead 0) (sym (attempts-snoc (u ∷ us) w ws (begun w (run (w .fragment) cs []) a) refl)) (s .ahead);
       each = all-append (SoundOne ct) (u ∷ us) (begun w (run (w .fragment) cs []) a ∷ []) (s .each) (begun-sound ct w cs a (s .waiting .0) x r y, tt);
       waiting = s .waiting .1;
       ones = all-append (λ (v : Uncommitted). v .ran ≤ 1) us (begun w (run (w .fragment) cs []) a ∷ []) (s .ones) (omega arith, tt);
@@ -239,6 +290,8 @@ pub record Half (ct top : ℕ) (us : List Uncommitted) (ws : List Waiting) : Typ
   sixteen : length us ≤ depth
   sixtyFour : length us + length ws ≤ mostLive
   rises : Rises 0 top (numbers us ws)
+  tried : All (λ (a : ℕ). 1 ≤ a) (attempts us ws)
+  ahead : Ahead 0 (attempts us ws)
   each : All (SoundOne ct) us
   waiting : All (Stored ct) ws
   ones : All (λ (u : Uncommitted). u .ran ≤ 1) us
@@ -250,6 +303,8 @@ half-tail ct top u us ws h = record {
   sixteen = omega (arith, h .sixteen);
   sixtyFour = omega (arith, h .sixtyFour);
   rises = rises-weaken 0 (u .number) top (numbers us ws) (omega arith) (h .rises .1);
+  tried = h .tried .1;
+  ahead = ahead-less 0 (attempts us ws) (h .ahead .1);
   each = h .each .1;
   waiting = h .waiting;
   ones = h .ones .1;
@@ -262,6 +317,8 @@ front-leaves ct top u us ws s = record {
   sixteen = omega (arith, s .sixteen);
   sixtyFour = omega (arith, s .sixtyFour);
   rises = rises-weaken 0 (u .number) top (numbers us ws) (omega arith) (s .rises .1);
+  tried = s .tried .1;
+  ahead = ahead-less 0 (attempts us ws) (s .ahead .1);
   each = s .each .1;
   waiting = s .waiting;
   ones = s .ones;
@@ -282,7 +339,7 @@ sent-sound ct u e o = record {
 
 pub settled-sound : (ct top : ℕ) (us : List Uncommitted) (ws : List Waiting) → Half ct top us ws → Sound ct top (settled us .uncommitted) ws × (length (settled us .answers) ≤ length us)
 unfolding settled
-settled-sound ct top [] ws h = (record { cells = h .cells; sixteen = h .sixteen; sixtyFour = h .sixtyFour; rises = h .rises; each = tt; waiting = h .waiting; ones = tt; front = refl; ready = refl }, omega arith)
+settled-sound ct top [] ws h = (record { cells = h .cells; sixteen = h .sixteen; sixtyFour = h .sixtyFour; rises = h .rises; tried = h .tried; ahead = h .ahead; each = tt; waiting = h .waiting; ones = tt; front = refl; ready = refl }, omega arith)
 settled-sound ct top (u ∷ us) ws h = settled-cases (λ (p : Place). Sound ct top (p .uncommitted) ws × (length (p .answers) ≤ suc (length us))) u us
     (λ e. (
       record {
@@ -290,15 +347,17 @@ settled-sound ct top (u ∷ us) ws h = settled-cases (λ (p : Place). Sound ct t
         sixteen = omega (arith, h .sixteen, released-length (u ∷ []) us);
         sixtyFour = omega (arith, h .sixtyFour, released-length (u ∷ []) us);
         rises = subst (λ (l : List ℕ). Rises 0 top l) (sym (ap {B = List ℕ} (λ (l : List ℕ). u .number ∷ l) (released-keeps (λ vs. numbers vs ws) (numbers-sent ws) (u ∷ []) us))) (h .rises);
+        tried = subst Tried (sym (ap {B = List ℕ} (λ (l : List ℕ). u .attempt ∷ l) (released-keeps (λ vs. attempts vs ws) (attempts-sent ws) (u ∷ []) us))) (h .tried);
+        ahead = subst (Ahead 0) (sym (ap {B = List ℕ} (λ (l : List ℕ). u .attempt ∷ l) (released-keeps (λ vs. attempts vs ws) (attempts-sent ws) (u ∷ []) us))) (h .ahead);
         each = (sent-sound ct u e (h .each .0), released-all (SoundOne ct) (sent-sound ct) (u ∷ []) us (h .each .1));
         waiting = h .waiting;
         ones = released-all (λ (v : Uncommitted). v .ran ≤ 1) (λ v _ k. k) (u ∷ []) us (h .ones .1);
         front = ap (λ (b : Bool). not b || false) e;
         ready = released-keeps (λ vs. ready (sent u ∷ vs)) (λ vs. ready-sent (sent u ∷ vs)) (u ∷ []) us ∙ sym (ready-sent (sent u ∷ us)) ∙ ready-sent (u ∷ us) ∙ h .ready;
       },
-      omega (arith, held-one 0 u, released-most (u ∷ []) us, length-append (heldBy u) (released (u ∷ []) us .answers)),
+      omega (arith, held-one 0 0 u, released-most (u ∷ []) us, length-append (heldBy u) (released (u ∷ []) us .answers)),
     ))
-    (λ _. let x = settled-sound ct top us ws (half-tail ct top u us ws h) in (x .0, omega (arith, held-one 0 u, x .1, length-append (heldBy u) (settled us .answers))))
+    (λ _. let x = settled-sound ct top us ws (half-tail ct top u us ws h) in (x .0, omega (arith, held-one 0 0 u, x .1, length-append (heldBy u) (settled us .answers))))
 
 -- The four steps
 
@@ -308,14 +367,16 @@ pub record Stays (ct top : ℕ) (q : Queues) : Type 0 where
 
 module _ (ct top : ℕ) (ws : List Waiting) (cs : Cells) where
   -- before the drain, each step leaves a sound record
-  pub joined-sound : (us : List Uncommitted) (n : ℕ) (f : Fragment) → Sound ct top us ws → top < n → storable ct f ≡ true → length us + length ws < mostLive → Sound ct n us (ws ++ (record { number = n; fragment = f } ∷ []))
+  pub joined-sound : (us : List Uncommitted) (n : ℕ) (f : Fragment) → Sound ct top us ws → top < n → storable ct f ≡ true → length us + length ws < mostLive → Sound ct n us (ws ++ (arrival n f ∷ []))
   joined-sound us n f s k st l =
-      let w : Waiting = record { number = n; fragment = f } in
+      let w : Waiting = arrival n f in
       record {
         cells = s .cells;
         sixteen = s .sixteen;
         sixtyFour = omega (arith, length-append ws (w ∷ []));
         rises = subst (λ (z : List ℕ). Rises 0 n z) (sym (numbers-more us ws w)) (rises-more 0 top n (numbers us ws) k (s .rises));
+        tried = subst Tried (sym (attempts-more us ws w)) (all-append (λ (a : ℕ). 1 ≤ a) (attempts us ws) (1 ∷ []) (s .tried) (omega arith, tt));
+        ahead = subst (Ahead 0) (sym (attempts-more us ws w)) (ahead-more 0 (attempts us ws) (omega (arith, attempts-length us ws)) (s .ahead));
         each = s .each;
         waiting = all-append (Stored ct) ws (w ∷ []) (s .waiting) (st, tt);
         ones = s .ones;
@@ -329,6 +390,8 @@ module _ (ct top : ℕ) (ws : List Waiting) (cs : Cells) where
     sixteen = s .sixteen;
     sixtyFour = s .sixtyFour;
     rises = s .rises;
+    tried = s .tried;
+    ahead = s .ahead;
     each = (again-sound ct u f cs (s .each .0) st k (front-multi u (s .front)), tt);
     waiting = s .waiting;
     ones = tt;
@@ -346,6 +409,8 @@ module _ (ct top : ℕ) (ws : List Waiting) (cs : Cells) where
     sixteen = omega arith;
     sixtyFour = omega (arith, s .sixtyFour, length-append (map requeued us) ws, length-map us requeued);
     rises = subst (λ (z : List ℕ). Rises 0 top z) (sym (numbers-requeued us ws)) (front-leaves ct top u us ws s .rises);
+    tried = tried-requeued us ws (s .tried .1);
+    ahead = ahead-requeued 0 us ws (s .ahead .1);
     each = tt;
     waiting = all-append (Stored ct) (map requeued us) ws (stored-requeued us (s .each .1)) (s .waiting);
     ones = tt;
@@ -360,7 +425,7 @@ module _ (ct top : ℕ) (ws : List Waiting) (cs : Cells) where
 
   pub joined-stays : (σ : Scheme) (us : List Uncommitted) (n : ℕ) (f : Fragment) → Sound ct top us ws → top < n → storable ct f ≡ true → length us + length ws < mostLive → Stays ct n (joined σ n f cs us ws)
   joined-stays σ us n f s k st l =
-      let w : Waiting = record { number = n; fragment = f } in
+      let w : Waiting = arrival n f in
       let x = drain-sound σ ct n cs us (ws ++ (w ∷ [])) (joined-sound us n f s k st l) in
       record { sound = x .0; most = omega (arith, x .1, length-append ws (w ∷ [])) }
 

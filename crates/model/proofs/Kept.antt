@@ -11,7 +11,7 @@ use lib.ListN.{length, drop}
 use Rattle.model.specs.Limits.{mostCells, mostFragments, mostLive, leastRoom}
 use Rattle.model.specs.Operations.{Cells, pick}
 use Rattle.model.specs.Transactions.{finished, Uncommitted, Waiting, Engine, numbers}
-use Rattle.model.specs.Steps.{Queues, joined, continued, arrived}
+use Rattle.model.specs.Steps.{Queues, joined, continued, arrived, committed, aborted}
 use Rattle.model.specs.Refusals.{Request, Arrive, Commit, Abort, request, formed, blank, formedEvent, inside, storable, sound, Call, live, new, isFront, rows, firstOf, refusal, taken, largestAfter, respond, step, Started, start, empty}
 use Rattle.model.specs.Demand.{Run, onward, runs, fresh}
 use Rattle.model.specs.declared.Event.{Event}
@@ -21,7 +21,7 @@ use Rattle.model.proofs.Branches.{request-cases}
 use Rattle.model.proofs.Passing.{passed, took, front-or-new, and-if, decides-front}
 use Rattle.model.proofs.Tests.{both, and-right, or-left}
 use Rattle.model.proofs.Sound.{sound-parts, parts-sound}
-use Rattle.model.proofs.Keeping.{Stays, joined-stays, continued-stays, committed-stays, aborted-stays, rises-weaken}
+use Rattle.model.proofs.Keeping.{Stays, joined-stays, continued-stays, committed-stays, aborted-stays, rises-top}
 use Rattle.model.specs.Parts.{All, Passed, SoundEngine, Sound}
 
 -- a fragment that was accepted could be stored
@@ -49,13 +49,21 @@ arrives-storable e c a p =
         or false y n h = absurd (n h)
     go false y e n h = absurd (true≢false (sym e))
 
-module _ (σ : Scheme) (ct top : ℕ) (ws : List Waiting) (cs : Cells) where
+-- An accepted call by its steps: what holds of each step from a sound record in which H holds of the uncommitted ones, with the largest number after
+-- it, holds of the call.
+module _ (H : List Uncommitted → Type 0) (P : ℕ → Queues → Type 0) (σ : Scheme) (ct top : ℕ) (ws : List Waiting) (cs : Cells) (c : Call)
+    (joins : (us : List Uncommitted) → Sound ct top us ws → H us → top < c .event .number → storable ct (c .event .fragment) ≡ true → length us + length ws < mostLive
+    → P (c .event .number) (joined σ (c .event .number) (c .event .fragment) cs us ws))
+    (continues : (u : Uncommitted) (us : List Uncommitted) → Sound ct top (u ∷ us) ws → H (u ∷ us) → storable ct (c .event .fragment) ≡ true → finished (u .state) ≡ false → u .ran < mostFragments
+    → P top (continued σ (c .event .fragment) cs u us ws))
+    (commits : (u : Uncommitted) (us : List Uncommitted) → Sound ct top (u ∷ us) ws → H (u ∷ us) → P top (committed σ cs (u ∷ us) ws))
+    (aborts : (u : Uncommitted) (us : List Uncommitted) → Sound ct top (u ∷ us) ws → H (u ∷ us) → request (c .event) ≡ Abort (c .event .number) → P top (aborted σ cs (u ∷ us) ws)) where
   abbrev engineOf : List Uncommitted → Engine
   engineOf us = record { count = ct; largest = top; uncommitted = us; waiting = ws }
 
-  arrive-stays : (us : List Uncommitted) (c : Call) → eqb (c .event .kind) 1 ≡ true → Sound ct top us ws → Passed (engineOf us) c
-      → Stays ct (largestAfter (Arrive (c .event .number) (c .event .fragment)) (engineOf us)) (arrived σ (c .event .number) (c .event .fragment) cs us ws)
-  arrive-stays us c a s p = go us s p
+  arrive-by : (us : List Uncommitted) → eqb (c .event .kind) 1 ≡ true → Sound ct top us ws → H us → Passed (engineOf us) c
+      → P (largestAfter (Arrive (c .event .number) (c .event .fragment)) (engineOf us)) (arrived σ (c .event .number) (c .event .fragment) cs us ws)
+  arrive-by us a s x p = go us s x p
     where
       n : ℕ
       n = c .event .number
@@ -63,45 +71,47 @@ module _ (σ : Scheme) (ct top : ℕ) (ws : List Waiting) (cs : Cells) where
       f : Fragment
       f = c .event .fragment
 
-      joins : (vs : List Uncommitted) → Sound ct top vs ws → Passed (engineOf vs) c → ltb top n ≡ true → Stays ct (elim (ltb top n) [ true ↦ n | false ↦ top ]) (joined σ n f cs vs ws)
-      joins vs s q e =
-          subst (λ (t : ℕ). Stays ct t (joined σ n f cs vs ws)) (sym (ap {B = ℕ} (λ (b : Bool). elim b [ true ↦ n | false ↦ top ]) e))
-          (joined-stays ct top ws cs σ vs n f s (ltb-true top n e) (arrives-storable (engineOf vs) c a q)
+      news : (vs : List Uncommitted) → Sound ct top vs ws → H vs → Passed (engineOf vs) c → ltb top n ≡ true → P (elim (ltb top n) [ true ↦ n | false ↦ top ]) (joined σ n f cs vs ws)
+      news vs s x q e =
+          subst (λ (t : ℕ). P t (joined σ n f cs vs ws)) (sym (ap {B = ℕ} (λ (b : Bool). elim b [ true ↦ n | false ↦ top ]) e))
+          (joins vs s x (ltb-true top n e) (arrives-storable (engineOf vs) c a q)
           (leb-false mostLive (length vs + length ws) (and-if (eqb (c .event .kind) 1 && ltb top n) (leb mostLive (length vs + length ws)) (both (eqb (c .event .kind) 1) (ltb top n) a e) (q .ten))))
 
-      go : (vs : List Uncommitted) → Sound ct top vs ws → Passed (engineOf vs) c → Stays ct (elim (ltb top n) [ true ↦ n | false ↦ top ]) (arrived σ n f cs vs ws)
-      go [] s p = joins [] s p (front-or-new (live n (engineOf [])) (ltb top n) false (p .six) (p .seven) refl)
-      go (u ∷ vs) s p = or (eqb (u .number) n) refl
+      go : (vs : List Uncommitted) → Sound ct top vs ws → H vs → Passed (engineOf vs) c → P (elim (ltb top n) [ true ↦ n | false ↦ top ]) (arrived σ n f cs vs ws)
+      go [] s x p = news [] s x p (front-or-new (live n (engineOf [])) (ltb top n) false (p .six) (p .seven) refl)
+      go (u ∷ vs) s x p = or (eqb (u .number) n) refl
         where
           at : (q : Uncommitted → Bool) → eqb (u .number) n ≡ true → (eqb (c .event .kind) 1 && (eqb (u .number) n && q u)) ≡ false → q u ≡ false
           at q e h = and-if (eqb (u .number) n) (q u) e (and-if (eqb (c .event .kind) 1) (eqb (u .number) n && q u) a h)
 
-          or : (b : Bool) → eqb (u .number) n ≡ b → Stays ct (elim (ltb top n) [ true ↦ n | false ↦ top ]) (elim b [ false ↦ joined σ n f cs (u ∷ vs) ws | true ↦ continued σ f cs u vs ws ])
-          or false e = joins (u ∷ vs) s p (front-or-new (live n (engineOf (u ∷ vs))) (ltb top n) (eqb (u .number) n) (p .six) (p .seven) e)
+          or : (b : Bool) → eqb (u .number) n ≡ b → P (elim (ltb top n) [ true ↦ n | false ↦ top ]) (elim b [ false ↦ joined σ n f cs (u ∷ vs) ws | true ↦ continued σ f cs u vs ws ])
+          or false e = news (u ∷ vs) s x p (front-or-new (live n (engineOf (u ∷ vs))) (ltb top n) (eqb (u .number) n) (p .six) (p .seven) e)
           or true e =
               let same : u .number ≡ n = eqb-true (u .number) n e in
-              let old : n ≤ top = subst (λ (m : ℕ). m ≤ top) same (rises-top (u .number) (numbers vs ws) (s .rises .1)) in
-              subst (λ (t : ℕ). Stays ct t (continued σ f cs u vs ws)) (sym (ap {B = ℕ} (λ (b : Bool). elim b [ true ↦ n | false ↦ top ]) (le-ltb top n old)))
-              (continued-stays ct top ws cs σ u vs f s (arrives-storable (engineOf (u ∷ vs)) c a p)
+              let old : n ≤ top = subst (λ (m : ℕ). m ≤ top) same (rises-top (u .number) top (numbers vs ws) (s .rises .1)) in
+              subst (λ (t : ℕ). P t (continued σ f cs u vs ws)) (sym (ap {B = ℕ} (λ (b : Bool). elim b [ true ↦ n | false ↦ top ]) (le-ltb top n old)))
+              (continues u vs s x (arrives-storable (engineOf (u ∷ vs)) c a p)
               (at (λ u. finished (u .state)) e (p .eight)) (leb-false mostFragments (u .ran) (at (λ u. leb mostFragments (u .ran)) e (p .eleven))))
-            where
-              rises-top : (m : ℕ) (l : List ℕ) → Rattle.model.specs.Demand.Rises m top l → m ≤ top
-              rises-top m [] h = h
-              rises-top m (x ∷ l) h = let y : x ≤ top = rises-top x l (h .1) in omega (arith, h .0)
 
-  commit-stays : (us : List Uncommitted) (c : Call) → eqb (c .event .kind) 1 ≡ false → Sound ct top us ws → Passed (engineOf us) c → Stays ct top (taken σ (Commit (c .event .number)) (engineOf us) cs)
-  commit-stays [] c a s p = absurd (true≢false (sym (decides-front (engineOf []) c a p)))
-  commit-stays (u ∷ us) c a s p = committed-stays ct top ws cs σ u us s
+  commit-by : (us : List Uncommitted) → eqb (c .event .kind) 1 ≡ false → Sound ct top us ws → H us → Passed (engineOf us) c → P top (taken σ (Commit (c .event .number)) (engineOf us) cs)
+  commit-by [] a s x p = absurd (true≢false (sym (decides-front (engineOf []) c a p)))
+  commit-by (u ∷ us) a s x p = commits u us s x
 
-  abort-stays : (us : List Uncommitted) (c : Call) → eqb (c .event .kind) 1 ≡ false → Sound ct top us ws → Passed (engineOf us) c → Stays ct top (taken σ (Abort (c .event .number)) (engineOf us) cs)
-  abort-stays [] c a s p = absurd (true≢false (sym (decides-front (engineOf []) c a p)))
-  abort-stays (u ∷ us) c a s p = aborted-stays ct top ws cs σ u us s
+  abort-by : (us : List Uncommitted) → eqb (c .event .kind) 1 ≡ false → request (c .event) ≡ Abort (c .event .number) → Sound ct top us ws → H us → Passed (engineOf us) c → P top (taken σ (Abort (c .event .number)) (engineOf us) cs)
+  abort-by [] a r s x p = absurd (true≢false (sym (decides-front (engineOf []) c a p)))
+  abort-by (u ∷ us) a r s x p = aborts u us s x r
+
+  pub accepted-by : (us : List Uncommitted) → Sound ct top us ws → H us → Passed (engineOf us) c → P (largestAfter (request (c .event)) (engineOf us)) (taken σ (request (c .event)) (engineOf us) cs)
+  accepted-by us s x p = request-cases (λ (q : Request). request (c .event) ≡ q → P (largestAfter q (engineOf us)) (taken σ q (engineOf us) cs)) (c .event)
+      (λ a _. arrive-by us a s x p) (λ a _. commit-by us a s x p) (λ a r. abort-by us a r s x p) refl
 
 accepted-stays : (e : Engine) (c : Call) → SoundEngine e → Passed e c → Stays (e .count) (largestAfter (request (c .event)) e) (taken (c .scheme) (request (c .event)) e (c .lent))
-accepted-stays e c s p = request-cases (λ (q : Request). Stays (e .count) (largestAfter q e) (taken (c .scheme) q e (c .lent))) (c .event)
-    (λ a. arrive-stays (c .scheme) (e .count) (e .largest) (e .waiting) (c .lent) (e .uncommitted) c a s p)
-    (λ a. commit-stays (c .scheme) (e .count) (e .largest) (e .waiting) (c .lent) (e .uncommitted) c a s p)
-    (λ a. abort-stays (c .scheme) (e .count) (e .largest) (e .waiting) (c .lent) (e .uncommitted) c a s p)
+accepted-stays e c s p = accepted-by (λ us. Unit {0}) (Stays (e .count)) (c .scheme) (e .count) (e .largest) (e .waiting) (c .lent) c
+    (λ us s _ k st l. joined-stays (e .count) (e .largest) (e .waiting) (c .lent) (c .scheme) us (c .event .number) (c .event .fragment) s k st l)
+    (λ u us s _ st nf k. continued-stays (e .count) (e .largest) (e .waiting) (c .lent) (c .scheme) u us (c .event .fragment) s st nf k)
+    (λ u us s _. committed-stays (e .count) (e .largest) (e .waiting) (c .lent) (c .scheme) u us s)
+    (λ u us s _ _. aborted-stays (e .count) (e .largest) (e .waiting) (c .lent) (c .scheme) u us s)
+    (e .uncommitted) s tt p
 
 -- Kept by every call, from every sound record
 pub record StepKeeps (e : Engine) (c : Call) : Type 0 where
@@ -131,7 +141,7 @@ answers-most e c = go (refusal e c) refl
 
 empty-sound : (n : ℕ) → n ≤ mostCells → sound (empty n) ≡ true
 empty-sound n k =
-    parts-sound (empty n) (record { cells = k; sixteen = omega arith; sixtyFour = omega arith; rises = omega arith; each = tt; waiting = tt; ones = tt; front = refl; ready = refl })
+    parts-sound (empty n) (record { cells = k; sixteen = omega arith; sixtyFour = omega arith; rises = omega arith; tried = tt; ahead = tt; each = tt; waiting = tt; ones = tt; front = refl; ready = refl })
 
 pub start-sound : (n : ℕ) → sound (start n .engine) ≡ true
 unfolding start

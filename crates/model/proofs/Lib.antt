@@ -9,6 +9,7 @@ pub mod Releasing
 pub mod Draining
 pub mod Settling
 pub mod Passing
+pub mod Attempts
 pub mod Demanded
 pub mod Tests
 pub mod Sound

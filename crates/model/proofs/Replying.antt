@@ -8,7 +8,7 @@ use Rattle.model.specs.Operations.{Cells, multi, told}
 use Rattle.model.specs.Transactions.{Answer, answer}
 use Rattle.model.specs.Serial.{Tx, attempt, effect, serial}
 use Rattle.model.specs.Demand.{Log, Standing, Settles, Gone, Undecided, standing, settledOf, numbersOf, Found, This, None, the}
-use Rattle.model.specs.Schemes.{single, ofSingles, replies}
+use Rattle.model.specs.Schemes.{single, attemptsAside, ofSingles, replies}
 use Rattle.model.proofs.Logs.{InOrder, the-at, Closed, settled-snoc, settled-gone}
 
 -- from the past P to the past Q: who settles, in order, with these numbers; and these answers have those of the singles among them, in that order
@@ -27,8 +27,8 @@ of-append l [] b = refl
 of-append l (x ∷ a) b = go (single (x .number) l) (of-append l a b)
   where
     go : (s : Bool) → ofSingles l (a ++ b) ≡ ofSingles l a ++ ofSingles l b
-        → _≡_ {A = List Answer} (elim s [ true ↦ x ∷ ofSingles l (a ++ b) | false ↦ ofSingles l (a ++ b) ]) ((elim s [ true ↦ x ∷ ofSingles l a | false ↦ ofSingles l a ]) ++ ofSingles l b)
-    go true e = ap {B = List Answer} (λ (y : List Answer). x ∷ y) e
+        → _≡_ {A = List Answer} (elim s [ true ↦ attemptsAside x ∷ ofSingles l (a ++ b) | false ↦ ofSingles l (a ++ b) ]) ((elim s [ true ↦ attemptsAside x ∷ ofSingles l a | false ↦ ofSingles l a ]) ++ ofSingles l b)
+    go true e = ap {B = List Answer} (λ (y : List Answer). attemptsAside x ∷ y) e
     go false e = e
 
 replies-append : (a b : List Tx) (cs : Cells) → replies (a ++ b) cs ≡ replies a cs ++ replies b (serial a cs)
@@ -36,10 +36,10 @@ replies-append [] b cs = refl
 replies-append (t ∷ a) b cs = go (multi (t .first)) (replies-append a b (effect t cs))
   where
     go : (m : Bool) → replies (a ++ b) (effect t cs) ≡ replies a (effect t cs) ++ replies b (serial a (effect t cs))
-        → _≡_ {A = List Answer} (elim m [ true ↦ replies (a ++ b) (effect t cs) | false ↦ answer (t .number) 0 (told (attempt t cs)) ∷ replies (a ++ b) (effect t cs) ])
-        ((elim m [ true ↦ replies a (effect t cs) | false ↦ answer (t .number) 0 (told (attempt t cs)) ∷ replies a (effect t cs) ]) ++ replies b (serial a (effect t cs)))
+        → _≡_ {A = List Answer} (elim m [ true ↦ replies (a ++ b) (effect t cs) | false ↦ answer (t .number) 0 0 0 (told (attempt t cs)) ∷ replies (a ++ b) (effect t cs) ])
+        ((elim m [ true ↦ replies a (effect t cs) | false ↦ answer (t .number) 0 0 0 (told (attempt t cs)) ∷ replies a (effect t cs) ]) ++ replies b (serial a (effect t cs)))
     go true e = e
-    go false e = ap {B = List Answer} (λ (y : List Answer). answer (t .number) 0 (told (attempt t cs)) ∷ y) e
+    go false e = ap {B = List Answer} (λ (y : List Answer). answer (t .number) 0 0 0 (told (attempt t cs)) ∷ y) e
 
 -- nothing sent, and nothing more settled
 pub went-none : (cs : Cells) (l P Q : Log) → settledOf Q ≡ settledOf P → Went cs l P Q [] []
@@ -77,7 +77,7 @@ single-at top l P t R h e =
 -- the answer of a multi of the log is no single's
 pub of-multi : (top : ℕ) (l P : Log) (t : Tx) (R : Log) (a : Answer) → InOrder 0 top l → l ≡ P ++ t ∷ R → multi (t .first) ≡ true → a .number ≡ t .number → ofSingles l (a ∷ []) ≡ []
 of-multi top l P t R a h e m n =
-    ap {B = List Answer} (λ (s : Bool). elim s [ true ↦ a ∷ [] | false ↦ [] ]) (ap (λ (k : ℕ). single k l) n ∙ single-at top l P t R h e ∙ ap not m)
+    ap {B = List Answer} (λ (s : Bool). elim s [ true ↦ attemptsAside a ∷ [] | false ↦ [] ]) (ap (λ (k : ℕ). single k l) n ∙ single-at top l P t R h e ∙ ap not m)
 
 -- a multi's answers, while nothing more settles
 pub went-multi : (cs : Cells) (top : ℕ) (l P Q : Log) (t : Tx) (R : Log) (a : Answer) (p : Log) → InOrder 0 top l → l ≡ P ++ t ∷ R → multi (t .first) ≡ true → a .number ≡ t .number → settledOf Q ≡ settledOf p → Went cs l p Q (a ∷ []) []
@@ -87,19 +87,19 @@ went-multi cs top l P Q t R a p h e m n q =
 
 -- a single settles with its answer
 pub went-settles : (cs : Cells) (top : ℕ) (l P : Log) (t : Tx) (R : Log) (a : Answer) → InOrder 0 top l → l ≡ P ++ t ∷ R → Closed P → standing t ≡ Settles → multi (t .first) ≡ false
-    → a ≡ answer (t .number) 0 (told (attempt t (serial (settledOf P) cs))) → Went cs l P (P ++ t ∷ []) (a ∷ []) (t .number ∷ [])
+    → attemptsAside a ≡ answer (t .number) 0 0 0 (told (attempt t (serial (settledOf P) cs))) → Went cs l P (P ++ t ∷ []) (a ∷ []) (t .number ∷ [])
 went-settles cs top l P t R a h e c s m is = record {
   more = t ∷ [];
   grows = settled-snoc P t c s;
   named = refl;
   singles = ap (λ (x : List Tx). replies x cs) (settled-snoc P t c s) ∙ replies-append (settledOf P) (t ∷ []) cs
-      ∙ ap {B = List Answer} (λ (b : Bool). replies (settledOf P) cs ++ elim b [ true ↦ [] | false ↦ answer (t .number) 0 (told (attempt t (serial (settledOf P) cs))) ∷ [] ]) m
+      ∙ ap {B = List Answer} (λ (b : Bool). replies (settledOf P) cs ++ elim b [ true ↦ [] | false ↦ answer (t .number) 0 0 0 (told (attempt t (serial (settledOf P) cs))) ∷ [] ]) m
       ∙ ap (λ (x : List Answer). replies (settledOf P) cs ++ x) (sym whose);
 }
   where
-    whose : ofSingles l (a ∷ []) ≡ answer (t .number) 0 (told (attempt t (serial (settledOf P) cs))) ∷ []
+    whose : ofSingles l (a ∷ []) ≡ answer (t .number) 0 0 0 (told (attempt t (serial (settledOf P) cs))) ∷ []
     whose =
-        ap {B = List Answer} (λ (s : Bool). elim s [ true ↦ a ∷ [] | false ↦ [] ]) (ap (λ (x : Answer). single (x .number) l) is ∙ single-at top l P t R h e ∙ ap not m)
+        ap {B = List Answer} (λ (s : Bool). elim s [ true ↦ attemptsAside a ∷ [] | false ↦ [] ]) (ap (λ (x : Answer). single (x .number) l) is ∙ single-at top l P t R h e ∙ ap not m)
         ∙ ap {B = List Answer} (λ (x : Answer). x ∷ []) is
 
 -- a multi settles, or is gone: nobody is answered
@@ -109,7 +109,7 @@ went-commit cs l P t c s m = record {
   grows = settled-snoc P t c s;
   named = refl;
   singles = ap (λ (x : List Tx). replies x cs) (settled-snoc P t c s) ∙ replies-append (settledOf P) (t ∷ []) cs
-      ∙ ap {B = List Answer} (λ (b : Bool). replies (settledOf P) cs ++ elim b [ true ↦ [] | false ↦ answer (t .number) 0 (told (attempt t (serial (settledOf P) cs))) ∷ [] ]) m;
+      ∙ ap {B = List Answer} (λ (b : Bool). replies (settledOf P) cs ++ elim b [ true ↦ [] | false ↦ answer (t .number) 0 0 0 (told (attempt t (serial (settledOf P) cs))) ∷ [] ]) m;
 }
 
 pub went-gone : (cs : Cells) (l P : Log) (t : Tx) → Closed P → standing t ≡ Gone → Went cs l P (P ++ t ∷ []) [] []

@@ -8,7 +8,7 @@ use mathlib.Core.List.{List, [], _∷_, _++_, map, append-assoc}
 use lib.Dec.{ltb, eqb}
 use Rattle.model.specs.Operations.{Cells, multi}
 use Rattle.model.specs.Transactions.{Reply, Held, Sent, NoReply, Uncommitted, Waiting, Engine, Answer, answer, Rising, numbers, front}
-use Rattle.model.specs.Steps.{run, begun, again, oneCoordinator, nearest, mayTake, Place, placed, Queues, sending, drain, joined, continued, arrived, heldWith, heldBy, sent, released, settled, committed, requeued, aborted}
+use Rattle.model.specs.Steps.{run, begun, again, oneCoordinator, nearest, nearestAttempt, mayTake, Place, placed, Queues, sending, drain, joined, continued, arrival, arrived, heldWith, heldBy, sent, released, settled, committed, requeued, aborted}
 use Rattle.model.specs.Refusals.{Request, Arrive, Commit, Abort, request, sound, live, new, isFront, Call, refusal, taken, respond, step}
 use Rattle.model.specs.Demand.{Rises}
 use Rattle.model.specs.declared.Fragment.{Fragment}
@@ -34,8 +34,8 @@ unfolding drain
 drain-rising σ n top cs us [] h = tt
 drain-rising σ n top cs us (w ∷ ws) h = drain-cases (λ (q : Queues). Rising n (q .answers)) σ cs us w ws (λ _. tt) (λ _. placed-rising n us w cs _ (h .0) (drain-rising σ (w .number) top _ _ ws (h .1)))
 
-held-rising : (n d : ℕ) (u : Uncommitted) (l : List Answer) → n < u .number → Rising (u .number) l → Rising n (heldWith d u ++ l)
-held-rising n d u l k h = held-cases (λ (a : List Answer). Rising n (a ++ l)) d u (λ o _. (k, h)) (λ _. rising-low n (u .number) l (omega arith) h)
+held-rising : (n d b : ℕ) (u : Uncommitted) (l : List Answer) → n < u .number → Rising (u .number) l → Rising n (heldWith d b u ++ l)
+held-rising n d b u l k h = held-cases (λ (a : List Answer). Rising n (a ++ l)) d b u (λ o _. (k, h)) (λ _. rising-low n (u .number) l (omega arith) h)
 
 waits-rise : (n top : ℕ) (us : List Uncommitted) (ws : List Waiting) → Rises n top (numbers us ws) → Rises n top (numbers [] ws)
 waits-rise n top [] ws h = h
@@ -50,20 +50,20 @@ module _ (top : ℕ) (ws : List Waiting) (l : List Answer) (t : (m : ℕ) → Ri
       let k = released-rising (u .number) (ahead ++ (u ∷ [])) us (h .1) in
       released-cases (λ (p : Place). Rising n (p .answers ++ l)) ahead u us
       (rising-low n (u .number) (released (ahead ++ (u ∷ [])) us .answers ++ l) (omega (arith, h .0)) k)
-      (λ _. subst (Rising n) (sym (append-assoc (heldWith (nearest 0 ahead) u) (released (ahead ++ (u ∷ [])) us .answers) l)) (held-rising n (nearest 0 ahead) u (released (ahead ++ (u ∷ [])) us .answers ++ l) (h .0) k))
+      (λ _. subst (Rising n) (sym (append-assoc (heldWith (nearest 0 ahead) (nearestAttempt 0 ahead) u) (released (ahead ++ (u ∷ [])) us .answers) l)) (held-rising n (nearest 0 ahead) (nearestAttempt 0 ahead) u (released (ahead ++ (u ∷ [])) us .answers ++ l) (h .0) k))
 
   -- those of the singles that settle, of the new front and of the released ones, then others
   settled-rising : (n : ℕ) (us : List Uncommitted) → Rises n top (numbers us ws) → Rising n (settled us .answers ++ l)
   unfolding settled
   settled-rising n [] h = t n h
   settled-rising n (u ∷ us) h = settled-cases (λ (p : Place). Rising n (p .answers ++ l)) u us
-      (λ _. subst (Rising n) (sym (append-assoc (heldBy u) (released (u ∷ []) us .answers) l)) (held-rising n 0 u (released (u ∷ []) us .answers ++ l) (h .0) (released-rising (u .number) (u ∷ []) us (h .1))))
-      (λ _. subst (Rising n) (sym (append-assoc (heldBy u) (settled us .answers) l)) (held-rising n 0 u (settled us .answers ++ l) (h .0) (settled-rising (u .number) us (h .1))))
+      (λ _. subst (Rising n) (sym (append-assoc (heldBy u) (released (u ∷ []) us .answers) l)) (held-rising n 0 0 u (released (u ∷ []) us .answers ++ l) (h .0) (released-rising (u .number) (u ∷ []) us (h .1))))
+      (λ _. subst (Rising n) (sym (append-assoc (heldBy u) (settled us .answers) l)) (held-rising n 0 0 u (settled us .answers ++ l) (h .0) (settled-rising (u .number) us (h .1))))
 
 module _ (σ : Scheme) (top : ℕ) (cs : Cells) (ws : List Waiting) where
   joined-rising : (n : ℕ) (f : Fragment) (us : List Uncommitted) → Rises 0 top (numbers us ws) → top < n → Rising 0 (joined σ n f cs us ws .answers)
   joined-rising n f us h k =
-      let w : Waiting = record { number = n; fragment = f } in
+      let w : Waiting = arrival n f in
       drain-rising σ 0 n cs us (ws ++ (w ∷ [])) (waits-rise 0 n us (ws ++ (w ∷ [])) (subst (λ (l : List ℕ). Rises 0 n l) (sym (numbers-more us ws w)) (rises-more 0 top n (numbers us ws) k h)))
 
   continued-rising : (f : Fragment) (u : Uncommitted) (us : List Uncommitted) → Rises 0 top (numbers (u ∷ us) ws) → Rising 0 (continued σ f cs u us ws .answers)

@@ -8,7 +8,7 @@ use mathlib.Core.List.{List, [], _∷_, _++_, map, append-assoc, append-nil, Lis
 use lib.ListN.{length}
 use Rattle.model.specs.Operations.{Cells, Outcome, multi, told}
 use Rattle.model.specs.Transactions.{Reply, Held, Sent, NoReply, holds, Uncommitted, Waiting, Answer, answer, undoList, finished}
-use Rattle.model.specs.Steps.{undone, Ran, run, again, requeued, Place, drain, nearest, heldBy, sent, released, settled, Queues, sending, joined, continued, committed, aborted}
+use Rattle.model.specs.Steps.{undone, Ran, run, again, requeued, Place, drain, nearest, nearestAttempt, heldBy, sent, released, settled, Queues, sending, arrival, joined, continued, committed, aborted}
 use Rattle.model.specs.Serial.{Tx, Decision, Open, Committed, Aborted, attempt, effect, serial}
 use Rattle.model.specs.Demand.{Log, Standing, Settles, Gone, Undecided, standing, settledOf, Gives, at, extended, decided}
 use Rattle.model.specs.declared.Fragment.{Fragment}
@@ -95,7 +95,7 @@ module _ (cs₀ : Cells) (top : ℕ) (l : Log) (rises : InOrder 0 top l) (P : Lo
   released-right as″ (u ∷ us) q s c =
       let rest = released-right (as″ ++ (u ∷ [])) us (behind-it .0) (behind-it .1) (behind-it .2) in
       released-cases (λ (p : Place). All (Right cs₀ l P b fs vs) (p .answers) × Went cs₀ l P P (p .answers) []) (a ∷ as″) u us rest
-      (λ m. held-cases (λ (x : List Answer). All (Right cs₀ l P b fs vs) (x ++ released (a ∷ as″ ++ (u ∷ [])) us .answers) × Went cs₀ l P P (x ++ released (a ∷ as″ ++ (u ∷ [])) us .answers) []) (nearest 0 (a ∷ as″)) u
+      (λ m. held-cases (λ (x : List Answer). All (Right cs₀ l P b fs vs) (x ++ released (a ∷ as″ ++ (u ∷ [])) us .answers) × Went cs₀ l P P (x ++ released (a ∷ as″ ++ (u ∷ [])) us .answers) []) (nearest 0 (a ∷ as″)) (nearestAttempt 0 (a ∷ as″)) u
       (λ o h. (
         (
           (
@@ -113,8 +113,8 @@ module _ (cs₀ : Cells) (top : ℕ) (l : Log) (rises : InOrder 0 top l) (P : Lo
           ),
           rest .0,
         ),
-        went-both cs₀ l P P P (answer (u .number) (nearest 0 (a ∷ as″)) o ∷ []) (released (a ∷ as″ ++ (u ∷ [])) us .answers) [] []
-            (went-multi cs₀ top l (P ++ lives fs (a ∷ as″)) P (txOf [] u) (lives [] us ++ map asTx ws) (answer (u .number) (nearest 0 (a ∷ as″)) o) P rises
+        went-both cs₀ l P P P (answer (u .number) (nearest 0 (a ∷ as″)) (u .attempt) (nearestAttempt 0 (a ∷ as″)) o ∷ []) (released (a ∷ as″ ++ (u ∷ [])) us .answers) [] []
+            (went-multi cs₀ top l (P ++ lives fs (a ∷ as″)) P (txOf [] u) (lives [] us ++ map asTx ws) (answer (u .number) (nearest 0 (a ∷ as″)) (u .attempt) (nearestAttempt 0 (a ∷ as″)) o) P rises
             (s ∙ sym (append-assoc P (lives fs (a ∷ as″)) (lives [] (u ∷ us) ++ map asTx ws))) m refl refl)
             (rest .1),
       ))
@@ -134,7 +134,7 @@ module _ (cs₀ : Cells) (top : ℕ) (l : Log) (rises : InOrder 0 top l) (P : Lo
 
 module _ (cs₀ : Cells) (top : ℕ) (l : Log) (rises : InOrder 0 top l) (cs : Cells) (k : ℕ) (ws : List Waiting) (as′ : List Answer) where
   held-sure : (u : Uncommitted) (us : List Uncommitted) → Mid cs₀ l cs k (u ∷ us) ws as′ → All (Sure cs₀ l) (heldBy u)
-  held-sure u us m = held-cases (All (Sure cs₀ l)) 0 u (λ o e. (
+  held-sure u us m = held-cases (All (Sure cs₀ l)) 0 0 u (λ o e. (
     (
       refl,
       gives-at cs₀ top l (m .past) (txOf [] u) (lives [] us ++ map asTx ws) o rises (m .split)
@@ -145,15 +145,15 @@ module _ (cs₀ : Cells) (top : ℕ) (l : Log) (rises : InOrder 0 top l) (cs : C
 
   -- a single that settles holds its answer; a multi that holds one is no single
   held-single : (u : Uncommitted) (us : List Uncommitted) (m : Mid cs₀ l cs k (u ∷ us) ws as′) → multi (u .first) ≡ false → Went cs₀ l (m .past) (m .past ++ txOf [] u ∷ []) (heldBy u) (u .number ∷ [])
-  held-single u us m e = held-cases (λ (a : List Answer). Went cs₀ l (m .past) (m .past ++ txOf [] u ∷ []) a (u .number ∷ [])) 0 u
-      (λ o x. went-settles cs₀ top l (m .past) (txOf [] u) (lives [] us ++ map asTx ws) (answer (u .number) 0 o) rises (m .split) (m .closed)
+  held-single u us m e = held-cases (λ (a : List Answer). Went cs₀ l (m .past) (m .past ++ txOf [] u ∷ []) a (u .number ∷ [])) 0 0 u
+      (λ o x. went-settles cs₀ top l (m .past) (txOf [] u) (lives [] us ++ map asTx ws) (answer (u .number) 0 (u .attempt) 0 o) rises (m .split) (m .closed)
       (ap {B = Standing} (λ (b : Bool). elim b [ false ↦ Settles | true ↦ Undecided ]) e) e
-      (ap (answer (u .number) 0) (m .chain .0 .says o x ∙ ap (λ (y : Cells). told (attempt (txOf [] u) y)) (sym (m .based)))))
+      (ap (answer (u .number) 0 0 0) (m .chain .0 .says o x ∙ ap (λ (y : Cells). told (attempt (txOf [] u) y)) (sym (m .based)))))
       (λ n. absurd (true≢false (sym (m .chain .0 .held) ∙ (λ i. e i || n i))))
 
   held-multi : (u : Uncommitted) (us : List Uncommitted) (m : Mid cs₀ l cs k (u ∷ us) ws as′) → multi (u .first) ≡ true → Went cs₀ l (m .past) (m .past) (heldBy u) []
-  held-multi u us m e = held-cases (λ (a : List Answer). Went cs₀ l (m .past) (m .past) a []) 0 u
-      (λ o _. went-multi cs₀ top l (m .past) (m .past) (txOf [] u) (lives [] us ++ map asTx ws) (answer (u .number) 0 o) (m .past) rises (m .split) e refl refl)
+  held-multi u us m e = held-cases (λ (a : List Answer). Went cs₀ l (m .past) (m .past) a []) 0 0 u
+      (λ o _. went-multi cs₀ top l (m .past) (m .past) (txOf [] u) (lives [] us ++ map asTx ws) (answer (u .number) 0 (u .attempt) 0 o) (m .past) rises (m .split) e refl refl)
       (λ _. went-none cs₀ l (m .past) (m .past) refl)
 
   -- a multi is first: the new front, and behind it some are released
@@ -432,8 +432,8 @@ again-inv σ cs₀ top l rises cs ws as′ u [] i f nf = record {
         go a z (inr y) = inr y
 
     after : After cs₀ (at (u .number) (extended f) l) (i .past) as′ (continued σ f cs u [] ws)
-    after = sends-drains σ cs₀ top (at (u .number) (extended f) l) h (run f cs (u .undo) .cells) (again u f (run f cs (u .undo)) ∷ []) ws as′ (answer (u .number) 0 (run f cs (u .undo) .outcome) ∷ []) [] (i .past) inv
-        (sure-right cs₀ (at (u .number) (extended f) l) (inv .past) (inv .base) (inv .more) (again u f (run f cs (u .undo)) ∷ []) (answer (u .number) 0 (run f cs (u .undo) .outcome) ∷ []) (
+    after = sends-drains σ cs₀ top (at (u .number) (extended f) l) h (run f cs (u .undo) .cells) (again u f (run f cs (u .undo)) ∷ []) ws as′ (answer (u .number) 0 (u .attempt) 0 (run f cs (u .undo) .outcome) ∷ []) [] (i .past) inv
+        (sure-right cs₀ (at (u .number) (extended f) l) (inv .past) (inv .base) (inv .more) (again u f (run f cs (u .undo)) ∷ []) (answer (u .number) 0 (u .attempt) 0 (run f cs (u .undo) .outcome) ∷ []) (
           (
             refl,
             gives-at cs₀ top (at (u .number) (extended f) l) (i .past) (txOf (i .more ++ (f ∷ [])) u) (map asTx ws) (run f cs (u .undo) .outcome) h log
@@ -441,7 +441,7 @@ again-inv σ cs₀ top l rises cs ws as′ u [] i f nf = record {
           ),
           tt,
         ))
-        (went-multi cs₀ top (at (u .number) (extended f) l) (i .past) (i .past) (txOf (i .more ++ (f ∷ [])) u) (map asTx ws) (answer (u .number) 0 (run f cs (u .undo) .outcome)) (i .past) h log (i .multi) refl refl)
+        (went-multi cs₀ top (at (u .number) (extended f) l) (i .past) (i .past) (txOf (i .more ++ (f ∷ [])) u) (map asTx ws) (answer (u .number) 0 (u .attempt) 0 (run f cs (u .undo) .outcome)) (i .past) h log (i .multi) refl refl)
 
 -- "Arrival, new number": join the end of the waiting queue
 pub new-inv : (σ : Scheme) (cs₀ : Cells) (top : ℕ) (l : Log) (rises : InOrder 0 top l) (cs : Cells) (us : List Uncommitted) (ws : List Waiting) (as′ : List Answer) (w : Waiting)
@@ -458,12 +458,12 @@ new-inv σ cs₀ top l rises cs us ws as′ w i idle k = record {
     h = rises-more 0 top l (asTx w) k rises
 
     after : After cs₀ (l ++ asTx w ∷ []) (i .past) as′ (joined σ (w .number) (w .fragment) cs us ws)
-    after = drain-inv σ cs₀ (w .number) (l ++ asTx w ∷ []) h cs us (ws ++ (w ∷ [])) as′ (record {
+    after = drain-inv σ cs₀ (w .number) (l ++ asTx w ∷ []) h cs us (ws ++ (arrival (w .number) (w .fragment) ∷ [])) as′ (record {
       past = i .past;
       base = i .base;
       more = i .more;
       split = ap (λ (x : Log). x ++ asTx w ∷ []) (i .split) ∙ append-assoc (i .past) (lives (i .more) us ++ map asTx ws) (asTx w ∷ [])
-          ∙ ap (λ (x : Log). i .past ++ x) (append-assoc (lives (i .more) us) (map asTx ws) (asTx w ∷ []) ∙ ap (λ (x : Log). lives (i .more) us ++ x) (sym (map-append ws (w ∷ []))));
+          ∙ ap (λ (x : Log). i .past ++ x) (append-assoc (lives (i .more) us) (map asTx ws) (asTx w ∷ []) ∙ ap (λ (x : Log). lives (i .more) us ++ x) (sym (map-append ws (arrival (w .number) (w .fragment) ∷ []))));
       closed = i .closed;
       based = i .based;
       chain = i .chain;

@@ -9,13 +9,13 @@ use lib.Dec.{leb, ltb}
 use lib.ListN.{length, length-append}
 use Rattle.model.specs.Limits.{mostCells, mostFragments, depth, mostLive, mostEntries}
 use Rattle.model.specs.Operations.{multi}
-use Rattle.model.specs.Transactions.{finished, holds, Uncommitted, Waiting, Engine, undoList, numbers, front}
-use Rattle.model.specs.Refusals.{every, rising, storable, behind, ready, fits, isState, isReply, clauses, sound}
+use Rattle.model.specs.Transactions.{finished, holds, Uncommitted, Waiting, Engine, undoList, numbers, attempts, front}
+use Rattle.model.specs.Refusals.{every, rising, aheadFits, storable, behind, ready, fits, isState, isReply, clauses, sound}
 use Rattle.model.specs.Demand.{Rises}
 use Rattle.model.specs.declared.Undo.{Undo}
 use Rattle.model.proofs.Chain.{all-map}
 use Rattle.model.proofs.Tests.{both, and-left, and-right, every-all, all-every, every-append, every-first, every-rest}
-use Rattle.model.specs.Parts.{All, cellInside, SoundOne, Stored, badFront, Sound, SoundEngine}
+use Rattle.model.specs.Parts.{All, cellInside, SoundOne, Stored, badFront, Ahead, Sound, SoundEngine}
 
 -- From the test
 
@@ -26,6 +26,14 @@ rising-rises n top (m ∷ l) h = (ltb-true n m (and-left (ltb n m) (rising m top
 rises-rising : (n top : ℕ) (l : List ℕ) → Rises n top l → rising n top l ≡ true
 rises-rising n top [] h = le-leb n top h
 rises-rising n top (m ∷ l) h = both (ltb n m) (rising m top l) (lt-ltb n m (h .0)) (rises-rising m top l (h .1))
+
+fits-ahead : (i : ℕ) (l : List ℕ) → aheadFits i l ≡ true → Ahead i l
+fits-ahead i [] h = tt
+fits-ahead i (a ∷ l) h = (leb-true (a + i) mostLive (and-left (leb (a + i) mostLive) (aheadFits (1 + i) l) h), fits-ahead (1 + i) l (and-right (leb (a + i) mostLive) (aheadFits (1 + i) l) h))
+
+ahead-fits : (i : ℕ) (l : List ℕ) → Ahead i l → aheadFits i l ≡ true
+ahead-fits i [] h = refl
+ahead-fits i (a ∷ l) h = both (leb (a + i) mostLive) (aheadFits (1 + i) l) (le-leb (a + i) mostLive (h .0)) (ahead-fits (1 + i) l (h .1))
 
 module _ (ct : ℕ) where
   each-of : (us : List Uncommitted)
@@ -85,6 +93,8 @@ sound-parts e h =
       sixteen = leb-true (length (e .uncommitted)) depth (search c);
       sixtyFour = leb-true (length (e .uncommitted) + length (e .waiting)) mostLive (search c);
       rises = rising-rises 0 (e .largest) (numbers (e .uncommitted) (e .waiting)) (search c);
+      tried = all-map (λ (a : ℕ). leb 1 a ≡ true) (λ (a : ℕ). 1 ≤ a) (λ a k. leb-true 1 a k) (attempts (e .uncommitted) (e .waiting)) (every-all _ (attempts (e .uncommitted) (e .waiting)) (search c));
+      ahead = fits-ahead 0 (attempts (e .uncommitted) (e .waiting)) (search c);
       each = each-of (e .count) (e .uncommitted)
           (every-all _ (e .uncommitted) (search c))
           (every-all _ (e .uncommitted) (search c))
@@ -126,5 +136,7 @@ parts-sound e s =
     also clause (e .count) (λ (u : Uncommitted). fits (u .reply)) (λ u o. o .fits) (e .uncommitted) (s .each)
     also inside-all (e .count) (e .uncommitted) (s .each)
     also clause (e .count) (λ (u : Uncommitted). leb (length (u .undo)) (8 * u .ran)) (λ u o. le-leb (length (u .undo)) (8 * u .ran) (o .few)) (e .uncommitted) (s .each)
+    also all-every (λ (a : ℕ). leb 1 a) (attempts (e .uncommitted) (e .waiting)) (all-map (λ (a : ℕ). 1 ≤ a) (λ (a : ℕ). leb 1 a ≡ true) (λ a k. le-leb 1 a k) (attempts (e .uncommitted) (e .waiting)) (s .tried))
+    also ahead-fits 0 (attempts (e .uncommitted) (e .waiting)) (s .ahead)
     also clause (e .count) (λ (u : Uncommitted). isState (u .state) && isReply (u .reply)) (λ u o. o .read) (e .uncommitted) (s .each)
     also refl

@@ -2,7 +2,8 @@
 -- order, then the uncommitted ones in queue order, as far as their fragments have run. An aborted or failed transaction contributes nothing. An
 -- answer without a dependence carries the numbers, or the place of failure, that its fragment gives directly after everything settled before it and
 -- its own transaction's earlier fragments. An answer that depends on D carries what that same run gives if D commits and no abort was accepted
--- between the answer and that commit." First the log, a function of the calls and the returned numbers alone.
+-- between the answer and that commit." By 02, L2: "Demand 3's last sentence then reads: right if D commits in that very attempt." First the log, a
+-- function of the calls and the returned numbers alone.
 use Prim.Native.Nat.{ℕ, zero, suc, _≤_, _<_}
 use mathlib.Core.Path.{_≡_}
 use mathlib.Core.Bool.{Bool, true, false, _||_}
@@ -10,7 +11,7 @@ use mathlib.Core.List.{List, [], _∷_, _++_, map, List·Memᴰ}
 use lib.Dec.{ltb, eqb}
 use lib.ListN.{length, take}
 use Rattle.model.specs.Operations.{Cells, Outcome, multi, told}
-use Rattle.model.specs.Transactions.{Engine, Answer, numbers}
+use Rattle.model.specs.Transactions.{Uncommitted, Engine, Answer, numbers}
 use Rattle.model.specs.Refusals.{Request, Arrive, Commit, Abort, request, isIn, Call, Stepped, step, settlesIn, start}
 use Rattle.model.specs.Serial.{Tx, Decision, Open, Committed, Aborted, attempt, serial}
 use Rattle.model.specs.declared.Fragment.{Fragment}
@@ -162,15 +163,50 @@ Gives cs n l o = (t : Tx) × (the n l ≡ This t) × (o ≡ told (attempt t (ser
 abbrev pub PlainRight : Cells → Run → Call → Type 0
 PlainRight cs r c = (a : Answer) → List·Memᴰ a (step (r .engine) c .answers) → a .dependence ≡ 0 → Gives cs (a .number) (onward r c .log) (a .outcome)
 
+-- The last sentence, as 02's L2 has it: "right if D commits in that very attempt", the one that the answer names. c sends the answer, `between` are the
+-- calls after it, whatever they are, d commits D. In which attempt D commits is said in two ways.
+
+-- By the record: who commits is the front, and this is the attempt that the record has of it
+abbrev pub frontAttempt : List Uncommitted → ℕ
+frontAttempt [] = 0
+frontAttempt (u ∷ us) = u .attempt
+
+abbrev pub DependentRight : Cells → Run → Call → List Call → Call → Type 0
+DependentRight cs r c between d =
+    (a : Answer) → List·Memᴰ a (step (r .engine) c .answers) → (a .dependence ≡ 0 → ⊥)
+    → request (d .event) ≡ Commit (a .dependence)
+    → step (runs (onward r c) between .engine) d .number ≡ 0
+    → frontAttempt (runs (onward r c) between .engine .uncommitted) ≡ a .dependenceAttempt
+    → Gives cs (a .number) (onward (runs (onward r c) between) d .log) (a .outcome)
+
+-- By what was sent, which is all that a coordinator sees: the attempt that the last of these answers for n carries, k where none is for n
+abbrev pub lastAttempt : ℕ → ℕ → List Answer → ℕ
+lastAttempt n k [] = k
+lastAttempt n k (a ∷ as′) = elim (eqb (a .number) n) [ true ↦ lastAttempt n (a .attempt) as′ | false ↦ lastAttempt n k as′ ]
+
+-- all answers that calls send, in the order in which they are sent
+abbrev pub sentIn : Run → List Call → List Answer
+sentIn r [] = []
+sentIn r (c ∷ calls) = step (r .engine) c .answers ++ sentIn (onward r c) calls
+
+-- past are the answers sent before c
+abbrev pub SeenRight : Cells → Run → List Answer → Call → List Call → Call → Type 0
+SeenRight cs r past c between d =
+    (a : Answer) → List·Memᴰ a (step (r .engine) c .answers) → (a .dependence ≡ 0 → ⊥)
+    → request (d .event) ≡ Commit (a .dependence)
+    → step (runs (onward r c) between .engine) d .number ≡ 0
+    → lastAttempt (a .dependence) 0 (past ++ sentIn r (c ∷ between)) ≡ a .dependenceAttempt
+    → Gives cs (a .number) (onward (runs (onward r c) between) d .log) (a .outcome)
+
+-- What 01 says of it: "if D commits and no abort was accepted between the answer and that commit". D then commits in the attempt that the answer names.
+
 -- no abort was accepted in these calls
 abbrev pub NoAbort : Run → List Call → Type 0
 NoAbort r [] = Unit {0}
 NoAbort r (c ∷ calls) = (step (r .engine) c .number ≡ 0 → (n : ℕ) → request (c .event) ≡ Abort n → ⊥) × NoAbort (onward r c) calls
 
--- "An answer that depends on D carries what that same run gives if D commits and no abort was accepted between the answer and that commit."
--- c sends the answer, `between` are the calls after it, d commits D
-abbrev pub DependentRight : Cells → Run → Call → List Call → Call → Type 0
-DependentRight cs r c between d =
+abbrev pub UndisturbedRight : Cells → Run → Call → List Call → Call → Type 0
+UndisturbedRight cs r c between d =
     (a : Answer) → List·Memᴰ a (step (r .engine) c .answers) → (a .dependence ≡ 0 → ⊥)
     → NoAbort (onward r c) between
     → request (d .event) ≡ Commit (a .dependence)
@@ -185,3 +221,5 @@ pub record Demand3 (cs : Cells) : Type 0 where
   pub plain : (calls : List Call) → AllLend (fresh cs) calls → (c : Call) → Lends (runs (fresh cs) calls) c → PlainRight cs (runs (fresh cs) calls) c
   pub dependent : (calls : List Call) → AllLend (fresh cs) calls → (c : Call) → Lends (runs (fresh cs) calls) c → (between : List Call)
       → AllLend (onward (runs (fresh cs) calls) c) between → (d : Call) → DependentRight cs (runs (fresh cs) calls) c between d
+  pub seen : (calls : List Call) → AllLend (fresh cs) calls → (c : Call) → Lends (runs (fresh cs) calls) c → (between : List Call)
+      → AllLend (onward (runs (fresh cs) calls) c) between → (d : Call) → SeenRight cs (runs (fresh cs) calls) (sentIn (fresh cs) calls) c between d

@@ -1,8 +1,10 @@
 -- Document 01, "Depot cases": P1 to P9, one table. Each case: the starting cells, the events, for each of them the returned number with
 -- the answers, and the cells at the end. "Cells 5 and 10 unless said". Then those of them that show the blocking scheme (02, L5), two of
--- what a failing operation found (02, L4), and two that show what a commit releases (02, L6).
+-- what a failing operation found (02, L4), two that show what a commit releases (02, L6), and two that tell old answers from new ones (02, L2).
 use Prim.Native.Nat.{ℕ, _-_}
 use mathlib.Core.List.{List, [], _∷_, _++_}
+use mathlib.Core.Bool.{true, false}
+use lib.Dec.{eqb}
 use lib.ListN.{length, replicate}
 use Rattle.model.specs.Limits.{TOP, leastRoom}
 use Rattle.model.specs.Operations.{Cells}
@@ -67,11 +69,16 @@ one o = o ∷ []
 
 -- answers
 
+-- of first attempts (02, L2), the one that it depends on too
 abbrev gave : ℕ → ℕ → List ℕ → Answer
-gave n d ns = answer n d (record { place = 0; numbers = ns })
+gave n d ns = answer n d 1 (elim (eqb d 0) [ true ↦ 0 | false ↦ 1 ]) (record { place = 0; numbers = ns })
+
+-- of attempt a, with a dependence on d in its attempt b
+abbrev retried : ℕ → ℕ → ℕ → ℕ → List ℕ → Answer
+retried n d a b ns = answer n d a b (record { place = 0; numbers = ns })
 
 abbrev failing : ℕ → ℕ → ℕ → Answer
-failing n p x = answer n 0 (record { place = p; numbers = x ∷ [] })
+failing n p x = answer n 0 1 0 (record { place = p; numbers = x ∷ [] })
 
 -- accepted, with one answer; accepted, with none
 abbrev ok : Answer → ℕ × List Answer
@@ -100,8 +107,8 @@ abbrev pub depot : List Case
 depot =
     -- P1 "the trace above"
     record { cells = 5 ∷ []; events = opening ++ (commit 1 ∷ []); prints = printed (opened ++ ((0, gave 2 0 (18 ∷ []) ∷ gave 3 0 (19 ∷ []) ∷ []) ∷ [])) (19 ∷ []) }
-    -- P2 "abort as event 5: answers 6 and 7, cell 7"
-    ∷ record { cells = 5 ∷ []; events = opening ++ (abort 1 ∷ []); prints = printed (opened ++ ((0, gave 2 0 (6 ∷ []) ∷ gave 3 0 (7 ∷ []) ∷ []) ∷ [])) (7 ∷ []) }
+    -- P2 "abort as event 5: answers 6 and 7, cell 7"; both were undone once
+    ∷ record { cells = 5 ∷ []; events = opening ++ (abort 1 ∷ []); prints = printed (opened ++ ((0, retried 2 0 2 0 (6 ∷ []) ∷ retried 3 0 2 0 (7 ∷ []) ∷ []) ∷ [])) (7 ∷ []) }
     -- P3 "multi 1, last, take 1 and take 1 of cell 1: numbers 9, 8; abort: 10"
     ∷ record { cells = 5 ∷ 10 ∷ []; events = finishing 1 1 (op 4 1 1 ∷ op 4 1 1 ∷ []) ∷ abort 1 ∷ []; prints = printed (ok (gave 1 0 (9 ∷ 8 ∷ [])) ∷ quiet ∷ []) (5 ∷ 10 ∷ []) }
     -- P4 "single take 10 of cell 1: 0"
@@ -126,7 +133,8 @@ depot =
     }
     ∷ []
 
--- By blocking. P1 and P2 print the same: by either scheme the singles are answered once 1 is decided. In P7 and P8 nothing depends: 3 runs when 1 has
+-- By blocking. P1 and P2 print the same, attempts aside: by either scheme the singles are answered once 1 is decided, and by blocking they have not run
+-- before. In P7 and P8 nothing depends: 3 runs when 1 has
 -- committed, and 4 when 3 has.
 abbrev pub blocked : List Case
 blocked =
@@ -166,5 +174,23 @@ sooner =
       cells = 5 ∷ 10 ∷ [];
       events = finishing 1 1 (one (op 2 0 17)) ∷ finishing 2 2 (one (op 3 0 1)) ∷ single 3 (one (op 3 0 1)) ∷ finishing 4 2 (one (op 3 0 1)) ∷ commit 1 ∷ commit 2 ∷ [];
       prints = printed (ok (gave 1 0 (17 ∷ [])) ∷ quiet ∷ quiet ∷ quiet ∷ (0, gave 2 0 (18 ∷ []) ∷ gave 4 2 (20 ∷ []) ∷ []) ∷ ok (gave 3 0 (19 ∷ [])) ∷ []) (20 ∷ 10 ∷ []);
+    }
+    ∷ []
+
+-- L2: "With 1, 3 and 5 chained, an abort of 1 undoes 3 and 5, and a coordinator that later sees 3 commit may believe the old answer of 5." The old one says
+-- 20 if 3 commits in its attempt 1, the new one 7 if 3 commits in its attempt 2. Then an abort of 3 too: 5 has its third attempt, and a new 7 its first.
+-- A later fragment of the front does not raise its attempt.
+abbrev pub attempted : List Case
+attempted =
+    record {
+      cells = 5 ∷ 10 ∷ [];
+      events = finishing 1 1 (one (op 2 0 18)) ∷ finishing 3 1 (one (op 3 0 1)) ∷ finishing 5 1 (one (op 3 0 1)) ∷ abort 1 ∷ commit 3 ∷ commit 5 ∷ [];
+      prints = printed (ok (gave 1 0 (18 ∷ [])) ∷ ok (gave 3 1 (19 ∷ [])) ∷ ok (gave 5 3 (20 ∷ [])) ∷ (0, retried 3 0 2 0 (6 ∷ []) ∷ retried 5 3 2 2 (7 ∷ []) ∷ []) ∷ quiet ∷ quiet ∷ []) (7 ∷ 10 ∷ []);
+    }
+    ∷ record {
+      cells = 5 ∷ 10 ∷ [];
+      events = finishing 1 1 (one (op 2 0 18)) ∷ finishing 3 1 (one (op 3 0 1)) ∷ unfinished 5 1 (one (op 3 0 1)) ∷ abort 1 ∷ abort 3 ∷ finishing 5 1 (one (op 3 0 1)) ∷ finishing 7 1 (one (op 1 0 0)) ∷ [];
+      prints = printed (ok (gave 1 0 (18 ∷ [])) ∷ ok (gave 3 1 (19 ∷ [])) ∷ ok (gave 5 3 (20 ∷ [])) ∷ (0, retried 3 0 2 0 (6 ∷ []) ∷ retried 5 3 2 2 (7 ∷ []) ∷ []) ∷ ok (retried 5 0 3 0 (6 ∷ []))
+          ∷ ok (retried 5 0 3 0 (7 ∷ [])) ∷ ok (retried 7 5 1 3 (7 ∷ [])) ∷ []) (7 ∷ 10 ∷ []);
     }
     ∷ []

@@ -9,7 +9,7 @@ use lib.Dec.{leb, ltb, eqb}
 use lib.ListN.{length}
 use Rattle.model.specs.Limits.{mostCells, mostFragments, depth, mostLive, leastRoom}
 use Rattle.model.specs.Operations.{multi}
-use Rattle.model.specs.Transactions.{finished, failed, holds, Uncommitted, Waiting, Engine, numbers, front}
+use Rattle.model.specs.Transactions.{finished, failed, holds, Uncommitted, Waiting, Engine, numbers, attempts, front}
 use Rattle.model.specs.Steps.{heldWith, sent, Place}
 use Rattle.model.specs.Refusals.{every, storable, behind, ready, fits, isState, isReply, sound, formedEvent, inside, Call, live, new, isFront, atFront}
 use Rattle.model.specs.Demand.{Rises}
@@ -41,11 +41,18 @@ Stored ct w = storable ct (w .fragment) ≡ true
 abbrev pub badFront : Uncommitted → Bool
 badFront u = not (multi (u .first)) || holds (u .reply)
 
+-- "attempt plus transactions ahead at most 64" (02, L2): i are ahead of the first of these
+abbrev pub Ahead : ℕ → List ℕ → Type 0
+Ahead i [] = Unit {0}
+Ahead i (a ∷ as′) = (a + i ≤ mostLive) × Ahead (1 + i) as′
+
 pub record Sound (ct top : ℕ) (us : List Uncommitted) (ws : List Waiting) : Type 0 where
   pub cells : ct ≤ mostCells
   pub sixteen : length us ≤ depth
   pub sixtyFour : length us + length ws ≤ mostLive
   pub rises : Rises 0 top (numbers us ws)
+  pub tried : All (λ (a : ℕ). 1 ≤ a) (attempts us ws)
+  pub ahead : Ahead 0 (attempts us ws)
   pub each : All (SoundOne ct) us
   pub waiting : All (Stored ct) ws
   pub ones : All (λ (u : Uncommitted). u .ran ≤ 1) (behind us)
@@ -73,15 +80,15 @@ pub record Passed (e : Engine) (c : Call) : Type 0 where
   pub thirteen : (eqb (c .event .kind) 2 && atFront (c .event .number) (λ u. not (finished (u .state))) e) ≡ false
   pub fourteen : (eqb (c .event .kind) 2 && atFront (c .event .number) (λ u. failed (u .state)) e) ≡ false
 
--- `released` as one walk over those behind the front: k is the coordinator of all multis so far, near the last of them. Behind a multi with
--- another coordinator nothing is released.
-unfoldable pub releasedFrom : ℕ → ℕ → List Uncommitted → Place
-releasedFrom k near [] = record { uncommitted = []; answers = []; settles = [] }
-releasedFrom k near (u ∷ us) =
+-- `released` as one walk over those behind the front: k is the coordinator of all multis so far, near the last of them and tried its attempt.
+-- Behind a multi with another coordinator nothing is released.
+unfoldable pub releasedFrom : ℕ → ℕ → ℕ → List Uncommitted → Place
+releasedFrom k near tried [] = record { uncommitted = []; answers = []; settles = [] }
+releasedFrom k near tried (u ∷ us) =
     elim (multi (u .first)) [
-      | false ↦ record { uncommitted = u ∷ releasedFrom k near us .uncommitted; answers = releasedFrom k near us .answers; settles = [] }
+      | false ↦ record { uncommitted = u ∷ releasedFrom k near tried us .uncommitted; answers = releasedFrom k near tried us .answers; settles = [] }
       | true ↦ elim (eqb (u .first .coordinator) k) [
         | false ↦ record { uncommitted = u ∷ us; answers = []; settles = [] }
-        | true ↦ record { uncommitted = sent u ∷ releasedFrom k (u .number) us .uncommitted; answers = heldWith near u ++ releasedFrom k (u .number) us .answers; settles = [] }
+        | true ↦ record { uncommitted = sent u ∷ releasedFrom k (u .number) (u .attempt) us .uncommitted; answers = heldWith near tried u ++ releasedFrom k (u .number) (u .attempt) us .answers; settles = [] }
       ]
     ]

@@ -6,7 +6,7 @@ use lib.Dec.{leb, ltb, eqb}
 use lib.ListN.{length, take, drop}
 use Rattle.model.specs.Limits.{mostCells, mostOperations, mostFragments, mostCoordinator, depth, mostLive, mostEntries, leastRoom}
 use Rattle.model.specs.Operations.{Cells, known, uses, multi, last, operations, pick}
-use Rattle.model.specs.Transactions.{State, Running, Finished, Failed, NoState, finished, failed, Reply, Held, Sent, NoReply, holds, Uncommitted, Waiting, Engine, undoList, numbers, front, Answer, filled}
+use Rattle.model.specs.Transactions.{State, Running, Finished, Failed, NoState, finished, failed, Reply, Held, Sent, NoReply, holds, Uncommitted, Waiting, Engine, undoList, numbers, attempts, front, Answer, filled}
 use Rattle.model.specs.Steps.{Queues, arrived, committed, aborted}
 use Rattle.model.specs.declared.Op.{Op}
 use Rattle.model.specs.declared.Fragment.{Fragment}
@@ -69,6 +69,11 @@ abbrev pub rising : ℕ → ℕ → List ℕ → Bool
 rising n top [] = leb n top
 rising n top (m ∷ ms) = ltb n m && rising m top ms
 
+-- 02, L2: "in a sound record an attempt is at least 1, and attempt plus transactions ahead at most 64": i are ahead of the first of these
+abbrev pub aheadFits : ℕ → List ℕ → Bool
+aheadFits i [] = true
+aheadFits i (a ∷ as′) = leb (a + i) mostLive && aheadFits (1 + i) as′
+
 -- "a stored fragment that 4 or 5 would refuse"
 abbrev pub storable : ℕ → Fragment → Bool
 storable ct f = formed f && inside ct f
@@ -130,6 +135,9 @@ clauses e =
     ∷ every (λ (x : Undo). ltb (x .cell) (e .count)) (undoList (e .uncommitted))
     -- "undo entries beyond 8 for each fragment its owner ran"
     ∷ every (λ (u : Uncommitted). leb (length (u .undo)) (8 * u .ran)) (e .uncommitted)
+    -- 02, L2: "in a sound record an attempt is at least 1, and attempt plus transactions ahead at most 64"
+    ∷ every (λ (a : ℕ). leb 1 a) (attempts (e .uncommitted) (e .waiting))
+    ∷ aheadFits 0 (attempts (e .uncommitted) (e .waiting))
     -- a state or a reply whose word stands for nothing
     ∷ every (λ (u : Uncommitted). isState (u .state) && isReply (u .reply)) (e .uncommitted)
     ∷ []

@@ -1,6 +1,6 @@
 -- Request L5: "For any sequence of calls from a fresh start, both engines return the same numbers, settle the same transactions in the same order
--- and hold equal cells whenever nothing is live. Singles get the same answers". Said of any two runs that are asked the same, whatever the scheme
--- of each call: all by one scheme in the first run and all by the other in the second, or mixed.
+-- and hold equal cells whenever nothing is live. Singles get the same answers, attempts aside." Said of any two runs that are asked the same,
+-- whatever the scheme of each call: all by one scheme in the first run and all by the other in the second, or mixed.
 use Prim.Native.Nat.{ℕ}
 use mathlib.Core.Path.{_≡_}
 use mathlib.Core.Bool.{Bool, true, false, not}
@@ -38,17 +38,21 @@ Idle r = numbers (r .engine .uncommitted) (r .engine .waiting) ≡ []
 abbrev pub single : ℕ → Log → Bool
 single n l = elim (the n l) [ This t ↦ not (multi (t .first)) | None ↦ false ]
 
--- the answers of singles among those sent
+-- "attempts aside": an answer but for the words of the attempts
+abbrev pub attemptsAside : Answer → Answer
+attemptsAside a = answer (a .number) (a .dependence) 0 0 (a .outcome)
+
+-- the answers of singles among those sent, attempts aside
 abbrev pub ofSingles : Log → List Answer → List Answer
 ofSingles l [] = []
-ofSingles l (a ∷ as′) = elim (single (a .number) l) [ true ↦ a ∷ ofSingles l as′ | false ↦ ofSingles l as′ ]
+ofSingles l (a ∷ as′) = elim (single (a .number) l) [ true ↦ attemptsAside a ∷ ofSingles l as′ | false ↦ ofSingles l as′ ]
 
 -- what the singles among transactions that settle one after the other from cs on are answered: each once, without a dependence, with what its
--- fragment gives where it stands
+-- fragment gives where it stands; attempts aside
 abbrev pub replies : List Tx → Cells → List Answer
 replies [] cs = []
 replies (t ∷ ts) cs =
-    elim (multi (t .first)) [ true ↦ replies ts (effect t cs) | false ↦ answer (t .number) 0 (told (attempt t cs)) ∷ replies ts (effect t cs) ]
+    elim (multi (t .first)) [ true ↦ replies ts (effect t cs) | false ↦ answer (t .number) 0 0 0 (told (attempt t cs)) ∷ replies ts (effect t cs) ]
 
 -- the answers of singles in a call are those of the singles that settle in it, in that order
 abbrev pub SinglesAnswered : Cells → Run → Call → Type 0
@@ -65,7 +69,7 @@ pub record SchemesAgree (cs : Cells) : Type 0 where
   pub recorded : (calls calls′ : List Call) → Twins cs calls calls′ → settledIn (runs (fresh cs) calls) ≡ settledIn (runs (fresh cs) calls′)
   -- "and hold equal cells whenever nothing is live"
   pub cells : (calls calls′ : List Call) → Twins cs calls calls′ → Idle (runs (fresh cs) calls) → runs (fresh cs) calls .cells ≡ runs (fresh cs) calls′ .cells
-  -- "Singles get the same answers": in the same call, in the same order
+  -- "Singles get the same answers, attempts aside.": in the same call, in the same order
   pub singles : (calls calls′ : List Call) → Twins cs calls calls′ → (c c′ : Call) → Alike c c′ → Lends (runs (fresh cs) calls) c → Lends (runs (fresh cs) calls′) c′
       → ofSingles (onward (runs (fresh cs) calls) c .log) (step (runs (fresh cs) calls .engine) c .answers)
       ≡ ofSingles (onward (runs (fresh cs) calls′) c′ .log) (step (runs (fresh cs) calls′ .engine) c′ .answers)

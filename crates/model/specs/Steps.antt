@@ -49,19 +49,26 @@ run f cs us = runFrom 1 (operations f) cs [] us
 abbrev pub stateAfter : Fragment → Outcome → State
 stateAfter f o = elim (eqb (o .place) 0) [ true ↦ elim (last f) [ true ↦ Finished | false ↦ Running ] | false ↦ Failed ]
 
--- a waiting one after its first fragment ran
+-- a waiting one after its first fragment ran, in the attempt that it waited for
 abbrev pub begun : Waiting → Ran → Reply → Uncommitted
-begun w r a = record { number = w .number; first = w .fragment; ran = 1; state = stateAfter (w .fragment) (r .outcome); reply = a; undo = r .undo }
+begun w r a = record { number = w .number; attempt = w .attempt; first = w .fragment; ran = 1; state = stateAfter (w .fragment) (r .outcome); reply = a; undo = r .undo }
 
 -- "all uncommitted multis including itself have one coordinator (singles do not count)": k is its own
 abbrev pub oneCoordinator : ℕ → List Uncommitted → Bool
 oneCoordinator k [] = true
 oneCoordinator k (u ∷ us) = (not (multi (u .first)) || eqb (u .first .coordinator) k) && oneCoordinator k us
 
--- "the nearest multi ahead of it": the last multi's number, n where there is none
+-- "the nearest multi ahead of it": what f says of the last multi, n where there is none
+abbrev pub nearestBy : (Uncommitted → ℕ) → ℕ → List Uncommitted → ℕ
+nearestBy f n [] = n
+nearestBy f n (u ∷ us) = elim (multi (u .first)) [ true ↦ nearestBy f (f u) us | false ↦ nearestBy f n us ]
+
+-- its number, and "the attempt of the one it depends on, 0 if none" (02, L2)
 abbrev pub nearest : ℕ → List Uncommitted → ℕ
-nearest n [] = n
-nearest n (u ∷ us) = elim (multi (u .first)) [ true ↦ nearest (u .number) us | false ↦ nearest n us ]
+nearest n us = nearestBy (λ (u : Uncommitted). u .number) n us
+
+abbrev pub nearestAttempt : ℕ → List Uncommitted → ℕ
+nearestAttempt n us = nearestBy (λ (u : Uncommitted). u .attempt) n us
 
 abbrev pub lastFinished : List Uncommitted → Bool
 lastFinished [] = true
@@ -85,9 +92,9 @@ unfoldable pub placed : List Uncommitted → Waiting → Ran → Place
 placed [] w r =
     elim (multi (w .fragment)) [
       -- "Nothing uncommitted, single: it settles at once and is answered, dependence 0."
-      | false ↦ record { uncommitted = []; answers = answer (w .number) 0 (r .outcome) ∷ []; settles = w .number ∷ [] }
+      | false ↦ record { uncommitted = []; answers = answer (w .number) 0 (w .attempt) 0 (r .outcome) ∷ []; settles = w .number ∷ [] }
       -- "Nothing uncommitted, multi: it becomes the front and is answered, dependence 0."
-      | true ↦ record { uncommitted = begun w r Sent ∷ []; answers = answer (w .number) 0 (r .outcome) ∷ []; settles = [] }
+      | true ↦ record { uncommitted = begun w r Sent ∷ []; answers = answer (w .number) 0 (w .attempt) 0 (r .outcome) ∷ []; settles = [] }
     ]
 -- "Otherwise it joins the uncommitted ones.": it does not settle
 placed (u ∷ us) w r =
@@ -95,7 +102,7 @@ placed (u ∷ us) w r =
       -- "A single's answer is held. A multi is answered now .. else its answer is held."
       | false ↦ record { uncommitted = u ∷ us ++ (begun w r (Held (r .outcome)) ∷ []); answers = []; settles = [] }
       -- "A multi is answered now, with a dependence on the nearest multi ahead of it"
-      | true ↦ record { uncommitted = u ∷ us ++ (begun w r Sent ∷ []); answers = answer (w .number) (nearest 0 (u ∷ us)) (r .outcome) ∷ []; settles = [] }
+      | true ↦ record { uncommitted = u ∷ us ++ (begun w r Sent ∷ []); answers = answer (w .number) (nearest 0 (u ∷ us)) (w .attempt) (nearestAttempt 0 (u ∷ us)) (r .outcome) ∷ []; settles = [] }
     ]
 
 -- what a step leaves: the cells, both queues, and the answers in the order in which they are sent; and the numbers of those that settle in it, in
@@ -120,33 +127,37 @@ drain σ cs us (w ∷ ws) =
       | true ↦ let p = placed us w (run (w .fragment) cs []) in sending (p .answers) (p .settles) (drain σ (run (w .fragment) cs [] .cells) (p .uncommitted) ws)
     ]
 
--- the front after one more fragment
+-- the front after one more fragment, in the same attempt
 abbrev pub again : Uncommitted → Fragment → Ran → Uncommitted
-again u f r = record { number = u .number; first = u .first; ran = u .ran + 1; state = stateAfter f (r .outcome); reply = Sent; undo = r .undo }
+again u f r = record { number = u .number; attempt = u .attempt; first = u .first; ran = u .ran + 1; state = stateAfter f (r .outcome); reply = Sent; undo = r .undo }
+
+-- "first run is 1" (02, L2)
+abbrev pub arrival : ℕ → Fragment → Waiting
+arrival n f = record { number = n; attempt = 1; fragment = f }
 
 -- "Arrival, new number: join the end of the waiting queue, then drain."
 abbrev pub joined : Scheme → ℕ → Fragment → Cells → List Uncommitted → List Waiting → Queues
-joined σ n f cs us ws = drain σ cs us (ws ++ (record { number = n; fragment = f } ∷ []))
+joined σ n f cs us ws = drain σ cs us (ws ++ (arrival n f ∷ []))
 
 -- "Arrival, number of the front (first uncommitted): run the fragment, answer with dependence 0, then drain."
 abbrev pub continued : Scheme → Fragment → Cells → Uncommitted → List Uncommitted → List Waiting → Queues
 continued σ f cs u us ws =
-    let r = run f cs (u .undo) in sending (answer (u .number) 0 (r .outcome) ∷ []) [] (drain σ (r .cells) (again u f r ∷ us) ws)
+    let r = run f cs (u .undo) in sending (answer (u .number) 0 (u .attempt) 0 (r .outcome) ∷ []) [] (drain σ (r .cells) (again u f r ∷ us) ws)
 
 abbrev pub arrived : Scheme → ℕ → Fragment → Cells → List Uncommitted → List Waiting → Queues
 arrived σ n f cs [] ws = joined σ n f cs [] ws
 arrived σ n f cs (u ∷ us) ws = elim (eqb (u .number) n) [ false ↦ joined σ n f cs (u ∷ us) ws | true ↦ continued σ f cs u us ws ]
 
--- the answer that u holds, with dependence d; one that was sent earlier is not repeated
-abbrev pub heldWith : ℕ → Uncommitted → List Answer
-heldWith d u = elim (u .reply) [ Held o ↦ answer (u .number) d o ∷ [] | Sent ↦ [] | NoReply ↦ [] ]
+-- the answer that u holds, with dependence d in its attempt b; one that was sent earlier is not repeated
+abbrev pub heldWith : ℕ → ℕ → Uncommitted → List Answer
+heldWith d b u = elim (u .reply) [ Held o ↦ answer (u .number) d (u .attempt) b o ∷ [] | Sent ↦ [] | NoReply ↦ [] ]
 
 -- "if its answer was held, it is sent now with dependence 0, and if it was sent earlier it is not repeated"
 abbrev pub heldBy : Uncommitted → List Answer
-heldBy u = heldWith 0 u
+heldBy u = heldWith 0 0 u
 
 abbrev pub sent : Uncommitted → Uncommitted
-sent u = record { number = u .number; first = u .first; ran = u .ran; state = u .state; reply = Sent; undo = u .undo }
+sent u = record { number = u .number; attempt = u .attempt; first = u .first; ran = u .ran; state = u .state; reply = Sent; undo = u .undo }
 
 -- 02, L6: "After each commit and before the drain, held answers are looked at in queue order, and each multi for which the multis ahead of it and
 -- itself have one coordinator is answered with its dependence." That is the nearest multi ahead. Those behind it are not asked. Nothing settles.
@@ -156,7 +167,7 @@ released ahead (u ∷ us) =
     let p = released (ahead ++ (u ∷ [])) us in
     elim (multi (u .first) && oneCoordinator (u .first .coordinator) ahead) [
       | false ↦ record { uncommitted = u ∷ p .uncommitted; answers = p .answers; settles = [] }
-      | true ↦ record { uncommitted = sent u ∷ p .uncommitted; answers = heldWith (nearest 0 ahead) u ++ p .answers; settles = [] }
+      | true ↦ record { uncommitted = sent u ∷ p .uncommitted; answers = heldWith (nearest 0 ahead) (nearestAttempt 0 ahead) u ++ p .answers; settles = [] }
     ]
 
 -- "Then singles settle and are answered from the front of the queue until a multi is first. That one is the new front"; L6: "The front comes first, as
@@ -174,9 +185,9 @@ abbrev pub committed : Scheme → Cells → List Uncommitted → List Waiting �
 committed σ cs [] ws = record { cells = cs; uncommitted = []; waiting = ws; answers = []; settles = [] }
 committed σ cs (u ∷ us) ws = sending (settled us .answers) (u .number ∷ settled us .settles) (drain σ cs (settled us .uncommitted) ws)
 
--- "the others return to the head of the waiting queue in their old order"
+-- "the others return to the head of the waiting queue in their old order", each to its next attempt: "one more after each undoing" (02, L2)
 abbrev pub requeued : Uncommitted → Waiting
-requeued u = record { number = u .number; fragment = u .first }
+requeued u = record { number = u .number; attempt = u .attempt + 1; fragment = u .first }
 
 -- "Abort of the front: undo all uncommitted from the tail to the front; the front is gone; the others return .. Then drain." The front
 -- does not settle; those do that settle in the drain.

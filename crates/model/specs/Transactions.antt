@@ -41,9 +41,11 @@ holds Sent = false
 holds NoReply = false
 
 -- "for each uncommitted transaction also its first fragment, how many fragments ran, whether it is finished or failed, and its held answer
--- or that its answer was sent"; with the undo entries that are its own, oldest first
+-- or that its answer was sent"; with the undo entries that are its own, oldest first. "the attempt of its transaction (first run is 1, one more after
+-- each undoing)" (02, L2): of this run, and of a waiting one what its next run will be.
 pub record Uncommitted : Type 0 where
   pub number : ℕ
+  pub attempt : ℕ
   pub first : Fragment
   pub ran : ℕ
   pub state : State
@@ -52,6 +54,7 @@ pub record Uncommitted : Type 0 where
 
 pub record Waiting : Type 0 where
   pub number : ℕ
+  pub attempt : ℕ
   pub fragment : Fragment
 
 -- "The engine's record goes into each call and comes back from it: cell count, largest number accepted, uncommitted queue (at most 16), waiting
@@ -71,19 +74,26 @@ undoList (u ∷ us) = u .undo ++ undoList us
 abbrev pub numbers : List Uncommitted → List Waiting → List ℕ
 numbers us ws = map (λ (u : Uncommitted). u .number) us ++ map (λ (w : Waiting). w .number) ws
 
+-- their attempts (02, L2)
+abbrev pub attempts : List Uncommitted → List Waiting → List ℕ
+attempts us ws = map (λ (u : Uncommitted). u .attempt) us ++ map (λ (w : Waiting). w .attempt) ws
+
 -- The first uncommitted one is the front. A test of it is false where nothing is uncommitted.
 abbrev pub front : (Uncommitted → Bool) → List Uncommitted → Bool
 front p [] = false
 front p (u ∷ us) = p u
 
--- An answer: transaction, dependence (0 for none), and what it tells
+-- An answer: transaction, dependence (0 for none), "the attempt of its transaction" and "the attempt of the one it depends on, 0 if none" (02, L2), and
+-- what it tells
 pub record Answer : Type 0 where
   pub number : ℕ
   pub dependence : ℕ
+  pub attempt : ℕ
+  pub dependenceAttempt : ℕ
   pub outcome : Outcome
 
-abbrev pub answer : ℕ → ℕ → Outcome → Answer
-answer n d o = record { number = n; dependence = d; outcome = o }
+abbrev pub answer : ℕ → ℕ → ℕ → ℕ → Outcome → Answer
+answer n d a b o = record { number = n; dependence = d; attempt = a; dependenceAttempt = b; outcome = o }
 
 -- answers in rising number, from above n; no transaction has two
 abbrev pub Rising : ℕ → List Answer → Type 0
@@ -91,11 +101,12 @@ Rising n [] = Unit {0}
 Rising n (a ∷ l) = (n < a .number) × Rising (a .number) l
 
 -- "An answer is 16 numbers of 32 bits: transaction, dependence (0 for none), place of failure (0 for none), count of numbers, eight numbers
--- (unused 0), four zeros."
+-- (unused 0), four zeros." The first two of these four are 02's, L2: "The thirteenth word of an answer becomes the attempt of its transaction (first
+-- run is 1, one more after each undoing), the fourteenth the attempt of the one it depends on, 0 if none."
 unfoldable pub words : Answer → List ℕ
 words a =
     a .number ∷ a .dependence ∷ a .outcome .place ∷ length (a .outcome .numbers)
-    ∷ take mostOperations (a .outcome .numbers ++ replicate mostOperations 0) ++ replicate 4 0
+    ∷ take mostOperations (a .outcome .numbers ++ replicate mostOperations 0) ++ a .attempt ∷ a .dependenceAttempt ∷ replicate 2 0
 
 unfoldable pub allWords : List Answer → List ℕ
 allWords [] = []

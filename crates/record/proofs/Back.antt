@@ -20,7 +20,7 @@ use Rattle.model.specs.declared.Undo.{Undo}
 use Rattle.operations.specs.Laid.{padded, flat, entriesOf}
 use Rattle.operations.proofs.Turns.{noOp, length-padded}
 use Rattle.record.specs.Words.{opsWords, rowWords, allRows, stateWord, replyWord, heldOutcome, runWords, rowsOf, allRuns, rowOf, liveRows, pack}
-use Rattle.record.specs.View.{fragmentAt, waitingOf, numbersFrom, stateOf, replyOf, memberAt, uncommittedOf, viewOf, view}
+use Rattle.record.specs.View.{fragmentAt, attemptAt, waitingOf, numbersFrom, stateOf, replyOf, memberAt, uncommittedOf, viewOf, view}
 use Rattle.record.proofs.Rows.{getD-padded, numbers-same, numbers-whole, fragment-same, row-words, eight}
 use Rattle.model.specs.Parts.{All, SoundOne}
 use Rattle.record.specs.Fitting.{Eight, Fit, Known}
@@ -62,15 +62,15 @@ length-ops : (os : List Op) → length (opsWords os) ≡ opWidth * length os
 length-ops [] = omega arith
 length-ops (o ∷ os) = omega (arith, length-ops os)
 
-pub length-row : (n : ℕ) (f : Fragment) → length (f .row) ≡ 8 → length (rowWords n f) ≡ liveWidth
+pub length-row : (n a : ℕ) (f : Fragment) → length (f .row) ≡ 8 → length (rowWords n a f) ≡ liveWidth
 unfolding rowWords
-length-row n f h = omega (arith, length-ops (f .row))
+length-row n a f h = omega (arith, length-ops (f .row), length-append (opsWords (f .row)) (a ∷ []))
 
 abbrev words : Waiting → List ℕ
-words w = rowWords (w .number) (w .fragment)
+words w = rowWords (w .number) (w .attempt) (w .fragment)
 
 wide-row : (w : Waiting) → Eight w → length (words w) ≡ liveWidth
-wide-row w h = length-row (w .number) (w .fragment) h
+wide-row w h = length-row (w .number) (w .attempt) (w .fragment) h
 
 pub length-rows : (ws : List Waiting) → All Eight ws → length (allRows ws) ≡ liveWidth * length ws
 unfolding allRows
@@ -80,24 +80,30 @@ pub rows-append : (a b : List Waiting) → allRows (a ++ b) ≡ allRows a ++ all
 unfolding allRows
 rows-append a b = append-rows words a b
 
-fragment-of-words : (n : ℕ) (f : Fragment) → length (f .row) ≡ 8 → fragmentAt (rowWords n f) 0 ≡ f
+fragment-of-words : (n a : ℕ) (f : Fragment) → length (f .row) ≡ 8 → fragmentAt (rowWords n a f) 0 ≡ f
 unfolding fragmentAt
-fragment-of-words n f h =
-    ap (λ (x : List ℕ). fragmentAt x 0) (sym (row-words n f h)) ∙ (λ i. record { flags = f .flags; coordinator = f .coordinator; count = f .count; row = eight noOp (f .row) h i })
+fragment-of-words n a f h =
+    ap (λ (x : List ℕ). fragmentAt x 0) (sym (row-words n a f h)) ∙ (λ i. record { flags = f .flags; coordinator = f .coordinator; count = f .count; row = eight noOp (f .row) h i })
+
+attempt-of-words : (n a : ℕ) (f : Fragment) → length (f .row) ≡ 8 → attemptAt (rowWords n a f) 0 ≡ a
+attempt-of-words n a f h = ap (λ (x : List ℕ). attemptAt x 0) (sym (row-words n a f h))
 
 module _ (n : ℕ) (A : List Waiting) (t : Waiting) (B : List Waiting) (b : ℕ) (ea : All Eight A) (et : Eight t) (eb : liveWidth * length A ≡ b) where
-  pub row-read : (k : ℕ) → k < liveWidth → getD (padded n (allRows (A ++ t ∷ B))) (b + k) 0 ≡ getD (rowWords (t .number) (t .fragment)) k 0
+  pub row-read : (k : ℕ) → k < liveWidth → getD (padded n (allRows (A ++ t ∷ B))) (b + k) 0 ≡ getD (rowWords (t .number) (t .attempt) (t .fragment)) k 0
   unfolding allRows
   row-read k h = word-read words liveWidth Eight wide-row n A t B b k ea et eb h
 
   pub fragment-back : fragmentAt (padded n (allRows (A ++ t ∷ B))) b ≡ t .fragment
   fragment-back =
-      fragment-same (padded n (allRows (A ++ t ∷ B))) b (rowWords (t .number) (t .fragment)) 0 (λ k h. row-read k h ∙ (let z : k ≡ 0 + k = omega arith in ap (λ (x : ℕ). getD (rowWords (t .number) (t .fragment)) x 0) z))
-      ∙ fragment-of-words (t .number) (t .fragment) et
+      fragment-same (padded n (allRows (A ++ t ∷ B))) b (rowWords (t .number) (t .attempt) (t .fragment)) 0 (λ k h. row-read k h ∙ (let z : k ≡ 0 + k = omega arith in ap (λ (x : ℕ). getD (rowWords (t .number) (t .attempt) (t .fragment)) x 0) z))
+      ∙ fragment-of-words (t .number) (t .attempt) (t .fragment) et
 
   pub number-back : getD (padded n (allRows (A ++ t ∷ B))) b 0 ≡ t .number
   unfolding rowWords
   number-back = (let z : b ≡ b + 0 = omega arith in ap (λ (x : ℕ). getD (padded n (allRows (A ++ t ∷ B))) x 0) z) ∙ row-read 0 (omega arith)
+
+  pub attempt-back : attemptAt (padded n (allRows (A ++ t ∷ B))) b ≡ t .attempt
+  attempt-back = row-read 28 (omega arith) ∙ attempt-of-words (t .number) (t .attempt) (t .fragment) et
 
 -- the rows of ws read back, behind those of A and before those of B
 pub waiting-back : (n : ℕ) (A ws B : List Waiting) (b : ℕ) → All Eight A → All Eight ws → liveWidth * length A ≡ b → waitingOf (padded n (allRows (A ++ (ws ++ B)))) b (length ws) ≡ ws
@@ -108,7 +114,7 @@ waiting-back n A (w ∷ ws) B b ea ew e =
     let rest : waitingOf (padded n (allRows (A ++ w ∷ (ws ++ B)))) (b + liveWidth) (length ws) ≡ ws =
     ap (λ (x : List Waiting). waitingOf (padded n (allRows x)) (b + liveWidth) (length ws)) (sym l)
     ∙ waiting-back n (A ++ (w ∷ [])) ws B (b + liveWidth) (all-append Eight A (w ∷ []) ea (ew .0, tt)) (ew .1) (omega (arith, length-append A (w ∷ []))) in
-    λ i. record { number = number-back n A w (ws ++ B) b ea (ew .0) e i; fragment = fragment-back n A w (ws ++ B) b ea (ew .0) e i } ∷ rest i
+    λ i. record { number = number-back n A w (ws ++ B) b ea (ew .0) e i; attempt = attempt-back n A w (ws ++ B) b ea (ew .0) e i; fragment = fragment-back n A w (ws ++ B) b ea (ew .0) e i } ∷ rest i
 
 -- Runs
 
@@ -229,6 +235,7 @@ members-back nl nr nu A P (u ∷ us) ws b c d ea el kp ku eb ec ed =
     (all-append Known P (u ∷ []) kp (ku .0, tt)) (ku .1) (omega (arith, length-append A (rowOf u ∷ []))) (omega (arith, length-append P (u ∷ []))) refl in
     λ i. record {
       number = number-back nl A (rowOf u) (liveRows us ws) b ea (el .0) eb i;
+      attempt = attempt-back nl A (rowOf u) (liveRows us ws) b ea (el .0) eb i;
       first = fragment-back nl A (rowOf u) (liveRows us ws) b ea (el .0) eb i;
       ran = w0 i;
       state = (ap stateOf w1 ∙ state-back (u .state) (ku .0 .1)) i;

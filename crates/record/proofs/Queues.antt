@@ -5,7 +5,7 @@ use native.Mathlib.Omega.{arith}
 use mathlib.Core.Path.{_≡_, refl, sym, ap, _∙_}
 use mathlib.Core.List.{List, [], _∷_, _++_, map, foldr}
 use lib.ListN.{length, getD}
-use Rattle.model.specs.Transactions.{Uncommitted, Waiting, undoList, numbers}
+use Rattle.model.specs.Transactions.{Uncommitted, Waiting, undoList, numbers, attempts}
 use Rattle.model.specs.declared.Undo.{Undo}
 use Rattle.model.specs.Parts.{All}
 use Rattle.operations.specs.Laid.{entriesOf}
@@ -89,6 +89,11 @@ module _ (live runs undo : List ℕ) where
 pub numbers-rows : (us : List Uncommitted) (ws : List Waiting) → numbers us ws ≡ map (λ (w : Waiting). w .number) (liveRows us ws)
 numbers-rows [] ws = refl
 numbers-rows (u ∷ us) ws = ap {B = List ℕ} (λ (x : List ℕ). u .number ∷ x) (numbers-rows us ws)
+
+-- and their attempts
+pub attempts-rows : (us : List Uncommitted) (ws : List Waiting) → attempts us ws ≡ map (λ (w : Waiting). w .attempt) (liveRows us ws)
+attempts-rows [] ws = refl
+attempts-rows (u ∷ us) ws = ap {B = List ℕ} (λ (x : List ℕ). u .attempt ∷ x) (attempts-rows us ws)
 
 -- what holds of all rows holds of the rows of each queue, and back
 module _ (P : Waiting → Type 0) where

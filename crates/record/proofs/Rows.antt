@@ -313,7 +313,7 @@ pub eight : {A : Type 0} (d : A) (l : List A) → length l ≡ 8 → getD l 0 d 
 eight d l h = ap (λ (n : ℕ). map (λ (p : ℕ). getD l p d) (places 0 1 n)) (sym h) ∙ read-whole d l
 
 -- the words of a row whose eight operations are taken one by one
-pub row-words : (n : ℕ) (f : Fragment) → length (f .row) ≡ 8
-    → n ∷ f .flags ∷ f .coordinator ∷ f .count ∷ opsWords (getD (f .row) 0 noOp ∷ getD (f .row) 1 noOp ∷ getD (f .row) 2 noOp ∷ getD (f .row) 3 noOp ∷ getD (f .row) 4 noOp ∷ getD (f .row) 5 noOp ∷ getD (f .row) 6 noOp ∷ getD (f .row) 7 noOp ∷ []) ≡ rowWords n f
+pub row-words : (n a : ℕ) (f : Fragment) → length (f .row) ≡ 8
+    → n ∷ f .flags ∷ f .coordinator ∷ f .count ∷ opsWords (getD (f .row) 0 noOp ∷ getD (f .row) 1 noOp ∷ getD (f .row) 2 noOp ∷ getD (f .row) 3 noOp ∷ getD (f .row) 4 noOp ∷ getD (f .row) 5 noOp ∷ getD (f .row) 6 noOp ∷ getD (f .row) 7 noOp ∷ []) ++ (a ∷ []) ≡ rowWords n a f
 unfolding rowWords
-row-words n f h = ap {B = List ℕ} (λ (x : List Op). n ∷ f .flags ∷ f .coordinator ∷ f .count ∷ opsWords x) (eight noOp (f .row) h)
+row-words n a f h = ap {B = List ℕ} (λ (x : List Op). n ∷ f .flags ∷ f .coordinator ∷ f .count ∷ opsWords x ++ (a ∷ [])) (eight noOp (f .row) h)

@@ -21,6 +21,8 @@ use Rattle.record.proofs.Counts.leaves.Kinds as leaves-kinds
 use Rattle.record.proofs.Counts.leaves.Reads as leaves
 use Rattle.record.proofs.Counts.requeues.Kinds as requeues-kinds
 use Rattle.record.proofs.Counts.requeues.Reads as requeues
+use Rattle.record.proofs.attempt_at.Kinds as attempt-at-kinds
+use Rattle.record.proofs.attempt_at.Reads as attempt-at
 
 pub fragment-at-unique : Unique fragment-at-kinds.ps fragment-at-kinds.r fragment-at.Learnt
 fragment-at-unique κs a z z′ ws ws′ p q = (cc, refl)
@@ -57,3 +59,6 @@ leaves-unique κs a z z′ ws ws′ p q = (cc, refl)
 
 pub requeues-unique : Unique requeues-kinds.ps requeues-kinds.r requeues.Learnt
 requeues-unique κs a z z′ ws ws′ p q = (cc, refl)
+
+pub attempt-at-unique : Unique attempt-at-kinds.ps attempt-at-kinds.r attempt-at.Learnt
+attempt-at-unique κs a z z′ ws ws′ p q = (cc, refl)

@@ -26,9 +26,13 @@ fragmentAt l b = record {
   row = opAt l (b + 4) ∷ opAt l (b + 7) ∷ opAt l (b + 10) ∷ opAt l (b + 13) ∷ opAt l (b + 16) ∷ opAt l (b + 19) ∷ opAt l (b + 22) ∷ opAt l (b + 25) ∷ [];
 }
 
+-- its attempt, the row's last word
+abbrev pub attemptAt : List ℕ → ℕ → ℕ
+attemptAt l b = getD l (b + 28) 0
+
 -- what stands in the row that starts at b
 abbrev pub rowAt : List ℕ → ℕ → Waiting
-rowAt l b = record { number = getD l b 0; fragment = fragmentAt l b }
+rowAt l b = record { number = getD l b 0; attempt = attemptAt l b; fragment = fragmentAt l b }
 
 -- n waiting ones, the first of which starts at b
 unfoldable pub waitingOf : List ℕ → ℕ → ℕ → List Waiting
@@ -53,6 +57,7 @@ replyOf n o = pick (eqb n 0) Sent (pick (eqb n 1) (Held o) NoReply)
 unfoldable pub memberAt : List ℕ → ℕ → List ℕ → ℕ → List ℕ → ℕ → Uncommitted
 memberAt live b runs c undo d = record {
   number = getD live b 0;
+  attempt = attemptAt live b;
   first = fragmentAt live b;
   ran = getD runs c 0;
   state = stateOf (getD runs (c + 1) 0);

@@ -1,6 +1,6 @@
 -- The layout's widths, each under one name: the words of an operation, of a live transaction, of a run and of an undo entry, and of the record's
 -- three rows.
-use Prim.Native.Nat.{ℕ, _*_}
+use Prim.Native.Nat.{ℕ, _+_, _*_}
 use Rattle.model.specs.Limits.{mostOperations, mostLive, depth, mostEntries}
 
 -- code, cell, amount
@@ -11,9 +11,13 @@ opWidth = 3
 abbrev pub opsWidth : ℕ
 opsWidth = opWidth * mostOperations
 
--- number, flags, coordinator, count, eight times code, cell, amount
+-- where they end in a row: behind number, flags, coordinator and count
+abbrev pub opsEnd : ℕ
+opsEnd = 4 + opsWidth
+
+-- number, flags, coordinator, count, eight times code, cell, amount, and the attempt (02, L2)
 abbrev pub liveWidth : ℕ
-liveWidth = 28
+liveWidth = 29
 
 -- fragments run, state, reply, entries, held place and count, eight held numbers, two zeros
 abbrev pub runWidth : ℕ

@@ -1,4 +1,4 @@
--- How the record's lists stand in its rows of numbers: 28 words a live transaction, 16 a run, 2 an undo entry; unused places are zero.
+-- How the record's lists stand in its rows of numbers: 29 words a live transaction, 16 a run, 2 an undo entry; unused places are zero.
 use Prim.Native.Nat.{ℕ}
 use mathlib.Core.List.{List, [], _∷_, _++_, map}
 use lib.ListN.{length}
@@ -15,9 +15,9 @@ abbrev pub opsWords : List Op → List ℕ
 opsWords [] = []
 opsWords (o ∷ os) = o .code ∷ o .cell ∷ o .amount ∷ opsWords os
 
--- a live transaction: number, flags, coordinator, count, operations
-unfoldable pub rowWords : ℕ → Fragment → List ℕ
-rowWords n f = n ∷ f .flags ∷ f .coordinator ∷ f .count ∷ opsWords (f .row)
+-- a live transaction: number, flags, coordinator, count, operations, attempt
+unfoldable pub rowWords : ℕ → ℕ → Fragment → List ℕ
+rowWords n a f = n ∷ f .flags ∷ f .coordinator ∷ f .count ∷ opsWords (f .row) ++ (a ∷ [])
 
 -- the words of all of a list, one row behind the other
 abbrev pub rowsOf : {A : Type 0} → (A → List ℕ) → List A → List ℕ
@@ -25,7 +25,7 @@ rowsOf f [] = []
 rowsOf f (a ∷ l) = f a ++ rowsOf f l
 
 unfoldable pub allRows : List Waiting → List ℕ
-allRows ws = rowsOf (λ (w : Waiting). rowWords (w .number) (w .fragment)) ws
+allRows ws = rowsOf (λ (w : Waiting). rowWords (w .number) (w .attempt) (w .fragment)) ws
 
 -- the numbers that stand for a state and a reply
 abbrev pub stateWord : State → ℕ
@@ -56,9 +56,9 @@ runWords u = u .ran ∷ stateWord (u .state) ∷ replyWord (u .reply) ∷ length
 unfoldable pub allRuns : List Uncommitted → List ℕ
 allRuns us = rowsOf runWords us
 
--- what stands in an uncommitted one's row: its number and its first fragment
+-- what stands in an uncommitted one's row: its number, its attempt and its first fragment
 abbrev pub rowOf : Uncommitted → Waiting
-rowOf u = record { number = u .number; fragment = u .first }
+rowOf u = record { number = u .number; attempt = u .attempt; fragment = u .first }
 
 -- the live ones in number order, as they stand in rows: uncommitted, then waiting
 abbrev pub liveRows : List Uncommitted → List Waiting → List Waiting

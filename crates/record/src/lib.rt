@@ -1,11 +1,11 @@
 // The engine's record by value, every field a 32-bit number, and what is read off its rows.
-ghost use Rattle.record.specs.Widths.{liveWidth};
+ghost use Rattle.record.specs.Widths.{opsEnd, liveWidth};
 ghost use mathlib.Core.Path.{_≡_};
 ghost use Prim.Native.Nat.{_+_, _*_, _-_, _<_, _≤_, min};
 ghost use lib.ListN.{length, getD, take};
 ghost use lib.Seq.{sets};
 ghost use Rattle.record.specs.Words.{rowWords};
-ghost use Rattle.record.specs.View.{opAt, fragmentAt, numbersFrom, zeros};
+ghost use Rattle.record.specs.View.{opAt, fragmentAt, attemptAt, numbersFrom, zeros};
 ghost use Rattle.operations.specs.Laid.{padded};
 ghost use Rattle.record.specs.Ends.{capped, endsAt, largestAt, largestBy};
 use model::Fragment;
@@ -13,11 +13,11 @@ use model::Op;
 
 // The layout, in one place: the words of a live transaction, of a run and of an undo entry, as indices and as numbers of a record, and the
 // words of the record's rows, for 64 live ones, 16 uncommitted ones and 184 entries.
-pub const LIVE_WORDS: usize = 28;
+pub const LIVE_WORDS: usize = 29;
 
 pub const RUN_WORDS: usize = 16;
 
-pub const LIVE_WIDTH: u32 = 28;
+pub const LIVE_WIDTH: u32 = 29;
 
 // where the operations of a live transaction's row begin and end
 pub const OPS_START: usize = 4;
@@ -28,7 +28,7 @@ pub const RUN_WIDTH: u32 = 16;
 
 pub const ENTRY_WIDTH: u32 = 2;
 
-pub const LIVE_LENGTH: usize = 1792;
+pub const LIVE_LENGTH: usize = 1856;
 
 pub const RUNS_LENGTH: usize = 256;
 
@@ -186,7 +186,7 @@ pub(crate) fn lay_in(row: &mut [u32], at: usize, words: &[u32], from: usize, n: 
     }
 }
 
-// The 28 words from a place on, 0 past the row's end. Few calls come here: the loop is as long as what is there, so that it stays a loop and
+// The 29 words from a place on, 0 past the row's end. Few calls come here: the loop is as long as what is there, so that it stays a loop and
 // does not spread over the ways that read a row whole.
 pub(crate) fn words_from(row: &[u32], at: usize) -> [u32; LIVE_WORDS]
     ensures { λ r. ⌜ r ≡ numbersFrom (now (row .entry)) at liveWidth ⌝ }
@@ -200,7 +200,7 @@ pub(crate) fn words_from(row: &[u32], at: usize) -> [u32; LIVE_WORDS]
 
 // A fragment whose words are all there.
 pub(crate) fn fragment_in(row: &[u32], at: usize) -> Fragment
-    requires { ⌜ at + liveWidth ≤ length (now row) ⌝ }
+    requires { ⌜ at + opsEnd ≤ length (now row) ⌝ }
     ensures { λ r. ⌜ r ≡ fragmentAt (now (row .entry)) at ⌝ }
 {
     let flags = row[at + 1];
@@ -228,16 +228,23 @@ pub fn fragment_at(row: &[u32], b: u32) -> Fragment
     ensures { λ r. ⌜ r ≡ fragmentAt (now (row .entry)) b ⌝ }
 {
     let at = b as usize;
-    if at + LIVE_WORDS <= row.len() {
+    if at + OPS_END <= row.len() {
         return fragment_in(row, at);
     }
     let words = words_from(row, at);
     fragment_in(&words, 0)
 }
 
-// The 28 words of a live transaction.
-pub fn row_words(number: u32, f: Fragment) -> [u32; LIVE_WORDS]
-    ensures { λ r. ⌜ r ≡ rowWords number f ⌝ }
+// The attempt of the transaction whose words start at b: the word behind its operations.
+pub fn attempt_at(row: &[u32], b: u32) -> u32
+    ensures { λ r. ⌜ r ≡ attemptAt (now (row .entry)) b ⌝ }
+{
+    operations::number_at(row, b as usize + OPS_END)
+}
+
+// The 29 words of a live transaction.
+pub fn row_words(number: u32, attempt: u32, f: Fragment) -> [u32; LIVE_WORDS]
+    ensures { λ r. ⌜ r ≡ rowWords number attempt f ⌝ }
 {
     let ops = f.row;
     let a = ops[0];
@@ -277,6 +284,7 @@ pub fn row_words(number: u32, f: Fragment) -> [u32; LIVE_WORDS]
         i.code,
         i.cell,
         i.amount,
+        attempt,
     ]
 }
 

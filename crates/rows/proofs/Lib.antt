@@ -2,3 +2,4 @@ pub mod Reading
 pub mod Unique
 pub mod Rooms
 pub mod Placed
+pub mod Raised

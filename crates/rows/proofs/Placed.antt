@@ -10,14 +10,15 @@ use lib.ListN.{length, length-map}
 use Rattle.model.specs.Operations.{pick, multi}
 use Rattle.model.specs.Transactions.{Reply, Held, Sent, Uncommitted, Waiting, Answer, answer}
 use Rattle.model.specs.Refusals.{every}
-use Rattle.model.specs.Steps.{begun, oneCoordinator, nearest, Place, placed}
+use Rattle.model.specs.Steps.{begun, oneCoordinator, nearest, nearestAttempt, Place, placed}
 use Rattle.model.specs.Steps as Steps
 use Rattle.operations.specs.Laid.{padded}
 use Rattle.record.specs.Words.{allRows, rowOf, liveRows}
 use Rattle.record.specs.View.{waitingOf}
 use Rattle.record.proofs.Back.{eights-first, waiting-back}
+use Rattle.rows.specs.declared.Trial.{Trial}
 use Rattle.rows.specs.Rows.{oneRows, nearRows, answeredNow, joinsQueue}
-use Rattle.rows.proofs.Reading.{sameOne, nearOne, one-rows, near-rows}
+use Rattle.rows.proofs.Reading.{sameOne, trialOf, nearOne, one-rows, near-rows}
 use Rattle.model.specs.Parts.{All}
 use Rattle.record.specs.Fitting.{Eight}
 use Rattle.record.specs.Widths.{liveWidth}
@@ -28,18 +29,18 @@ pub placed-by : (us : List Uncommitted) (w : Waiting) (r : Steps.Ran) (ans joins
     → ans ≡ answeredNow (length us) (multi (w .fragment)) (oneCoordinator (w .fragment .coordinator) us) → joins ≡ joinsQueue (length us) (multi (w .fragment))
     → placed us w r ≡ record {
       uncommitted = pick joins (us ++ (begun w r (pick (not ans) (Held (r .outcome)) Sent) ∷ [])) us;
-      answers = pick ans (answer (w .number) (nearest 0 us) (r .outcome) ∷ []) [];
+      answers = pick ans (answer (w .number) (nearest 0 us) (w .attempt) (nearestAttempt 0 us) (r .outcome) ∷ []) [];
       settles = pick joins [] (w .number ∷ []);
     }
 unfolding placed
 placed-by [] w r ans joins ea ej = go (multi (w .fragment)) ans joins ea ej
   where
     go : (m a j : Bool) → a ≡ true → j ≡ m → _≡_ {A = Place} (elim m as (λ _. Place) [
-      | false ↦ record { uncommitted = []; answers = answer (w .number) 0 (r .outcome) ∷ []; settles = w .number ∷ [] }
-      | true ↦ record { uncommitted = begun w r Sent ∷ []; answers = answer (w .number) 0 (r .outcome) ∷ []; settles = [] }
-    ]) (record { uncommitted = pick j (begun w r (pick (not a) (Held (r .outcome)) Sent) ∷ []) []; answers = pick a (answer (w .number) 0 (r .outcome) ∷ []) []; settles = pick j [] (w .number ∷ []) })
-    go true a j ea ej = λ i. record { uncommitted = pick (sym ej i) (begun w r (pick (not (sym ea i)) (Held (r .outcome)) Sent) ∷ []) []; answers = pick (sym ea i) (answer (w .number) 0 (r .outcome) ∷ []) []; settles = pick (sym ej i) [] (w .number ∷ []) }
-    go false a j ea ej = λ i. record { uncommitted = pick (sym ej i) (begun w r (pick (not (sym ea i)) (Held (r .outcome)) Sent) ∷ []) []; answers = pick (sym ea i) (answer (w .number) 0 (r .outcome) ∷ []) []; settles = pick (sym ej i) [] (w .number ∷ []) }
+      | false ↦ record { uncommitted = []; answers = answer (w .number) 0 (w .attempt) 0 (r .outcome) ∷ []; settles = w .number ∷ [] }
+      | true ↦ record { uncommitted = begun w r Sent ∷ []; answers = answer (w .number) 0 (w .attempt) 0 (r .outcome) ∷ []; settles = [] }
+    ]) (record { uncommitted = pick j (begun w r (pick (not a) (Held (r .outcome)) Sent) ∷ []) []; answers = pick a (answer (w .number) 0 (w .attempt) 0 (r .outcome) ∷ []) []; settles = pick j [] (w .number ∷ []) })
+    go true a j ea ej = λ i. record { uncommitted = pick (sym ej i) (begun w r (pick (not (sym ea i)) (Held (r .outcome)) Sent) ∷ []) []; answers = pick (sym ea i) (answer (w .number) 0 (w .attempt) 0 (r .outcome) ∷ []) []; settles = pick (sym ej i) [] (w .number ∷ []) }
+    go false a j ea ej = λ i. record { uncommitted = pick (sym ej i) (begun w r (pick (not (sym ea i)) (Held (r .outcome)) Sent) ∷ []) []; answers = pick (sym ea i) (answer (w .number) 0 (w .attempt) 0 (r .outcome) ∷ []) []; settles = pick (sym ej i) [] (w .number ∷ []) }
 placed-by (u ∷ us) w r ans joins ea ej =
     go (multi (w .fragment) && oneCoordinator (w .fragment .coordinator) (u ∷ us)) ans joins
     (ea ∙ ap (λ (b : Bool). b || (multi (w .fragment) && oneCoordinator (w .fragment .coordinator) (u ∷ us))) some)
@@ -50,10 +51,10 @@ placed-by (u ∷ us) w r ans joins ea ej =
 
     go : (m a j : Bool) → a ≡ m → j ≡ true → _≡_ {A = Place} (elim m as (λ _. Place) [
       | false ↦ record { uncommitted = u ∷ us ++ (begun w r (Held (r .outcome)) ∷ []); answers = []; settles = [] }
-      | true ↦ record { uncommitted = u ∷ us ++ (begun w r Sent ∷ []); answers = answer (w .number) (nearest 0 (u ∷ us)) (r .outcome) ∷ []; settles = [] }
-    ]) (record { uncommitted = pick j (u ∷ us ++ (begun w r (pick (not a) (Held (r .outcome)) Sent) ∷ [])) (u ∷ us); answers = pick a (answer (w .number) (nearest 0 (u ∷ us)) (r .outcome) ∷ []) []; settles = pick j [] (w .number ∷ []) })
-    go true a j ea ej = λ i. record { uncommitted = pick (sym ej i) (u ∷ us ++ (begun w r (pick (not (sym ea i)) (Held (r .outcome)) Sent) ∷ [])) (u ∷ us); answers = pick (sym ea i) (answer (w .number) (nearest 0 (u ∷ us)) (r .outcome) ∷ []) []; settles = pick (sym ej i) [] (w .number ∷ []) }
-    go false a j ea ej = λ i. record { uncommitted = pick (sym ej i) (u ∷ us ++ (begun w r (pick (not (sym ea i)) (Held (r .outcome)) Sent) ∷ [])) (u ∷ us); answers = pick (sym ea i) (answer (w .number) (nearest 0 (u ∷ us)) (r .outcome) ∷ []) []; settles = pick (sym ej i) [] (w .number ∷ []) }
+      | true ↦ record { uncommitted = u ∷ us ++ (begun w r Sent ∷ []); answers = answer (w .number) (nearest 0 (u ∷ us)) (w .attempt) (nearestAttempt 0 (u ∷ us)) (r .outcome) ∷ []; settles = [] }
+    ]) (record { uncommitted = pick j (u ∷ us ++ (begun w r (pick (not a) (Held (r .outcome)) Sent) ∷ [])) (u ∷ us); answers = pick a (answer (w .number) (nearest 0 (u ∷ us)) (w .attempt) (nearestAttempt 0 (u ∷ us)) (r .outcome) ∷ []) []; settles = pick j [] (w .number ∷ []) })
+    go true a j ea ej = λ i. record { uncommitted = pick (sym ej i) (u ∷ us ++ (begun w r (pick (not (sym ea i)) (Held (r .outcome)) Sent) ∷ [])) (u ∷ us); answers = pick (sym ea i) (answer (w .number) (nearest 0 (u ∷ us)) (w .attempt) (nearestAttempt 0 (u ∷ us)) (r .outcome) ∷ []) []; settles = pick (sym ej i) [] (w .number ∷ []) }
+    go false a j ea ej = λ i. record { uncommitted = pick (sym ej i) (u ∷ us ++ (begun w r (pick (not (sym ea i)) (Held (r .outcome)) Sent) ∷ [])) (u ∷ us); answers = pick (sym ea i) (answer (w .number) (nearest 0 (u ∷ us)) (w .attempt) (nearestAttempt 0 (u ∷ us)) (r .outcome) ∷ []) []; settles = pick (sym ej i) [] (w .number ∷ []) }
 
 -- The rows of the uncommitted ones
 
@@ -65,12 +66,20 @@ one-list k (u ∷ us) = λ i. go (multi (u .first)) i && one-list k us i
     go true = refl
     go false = refl
 
-near-list : (d : ℕ) (us : List Uncommitted) → foldl nearOne d (map rowOf us) ≡ nearest d us
+-- the nearest multi among them, d where there is none
+abbrev pub nearestTrial : Trial → List Uncommitted → Trial
+nearestTrial d us = record { number = nearest (d .number) us; attempt = nearestAttempt (d .attempt) us }
+
+near-list : (d : Trial) (us : List Uncommitted) → foldl nearOne d (map rowOf us) ≡ nearestTrial d us
 near-list d [] = refl
 near-list d (u ∷ us) = go (λ x. near-list x us) (multi (u .first))
   where
-    go : ((x : ℕ) → foldl nearOne x (map rowOf us) ≡ nearest x us) → (m : Bool) → foldl nearOne (pick m (u .number) d) (map rowOf us) ≡ elim m as (λ _. ℕ) [ true ↦ nearest (u .number) us | false ↦ nearest d us ]
-    go rest true = rest (u .number)
+    go : ((x : Trial) → foldl nearOne x (map rowOf us) ≡ nearestTrial x us) → (m : Bool)
+        → foldl nearOne (pick m (trialOf (rowOf u)) d) (map rowOf us) ≡ record {
+          number = elim m as (λ _. ℕ) [ true ↦ nearest (u .number) us | false ↦ nearest (d .number) us ];
+          attempt = elim m as (λ _. ℕ) [ true ↦ nearestAttempt (u .attempt) us | false ↦ nearestAttempt (d .attempt) us ];
+        }
+    go rest true = rest (trialOf (rowOf u))
     go rest false = rest d
 
 module _ (n : ℕ) (ws A : List Waiting) (us : List Uncommitted) (b : ℕ) (ea : All Eight A) (el : All Eight (liveRows us ws)) (eb : liveWidth * length A ≡ b) where
@@ -80,5 +89,5 @@ module _ (n : ℕ) (ws A : List Waiting) (us : List Uncommitted) (b : ℕ) (ea :
   pub one-back : (k : ℕ) → oneRows (padded n (allRows (A ++ liveRows us ws))) b (length us) k ≡ oneCoordinator k us
   one-back k = one-rows (padded n (allRows (A ++ liveRows us ws))) b (length us) k ∙ ap (every (sameOne k)) rows ∙ one-list k us
 
-  pub near-all : (d : ℕ) → nearRows d (padded n (allRows (A ++ liveRows us ws))) b (length us) ≡ nearest d us
+  pub near-all : (d : Trial) → nearRows d (padded n (allRows (A ++ liveRows us ws))) b (length us) ≡ nearestTrial d us
   near-all d = near-rows (padded n (allRows (A ++ liveRows us ws))) b (length us) d ∙ ap (foldl nearOne d) rows ∙ near-list d us

@@ -4,16 +4,22 @@ use native.Mathlib.Omega.{arith}
 use native.Mathlib.Nat.{add-assoc}
 use mathlib.Core.Path.{_≡_, refl, sym, ap, _∙_}
 use mathlib.Core.Bool.{Bool, true, false, _&&_}
-use mathlib.Core.List.{List, [], _∷_, foldl}
+use mathlib.Core.List.{List, [], _∷_, _++_, foldl}
 use lib.Dec.{eqb}
 use lib.ListN.{length, getD}
 use Rattle.model.specs.Operations.{pick, multi}
 use Rattle.model.specs.Transactions.{Waiting}
 use Rattle.model.specs.Refusals.{every}
 use Rattle.record.specs.View.{fragmentAt, waitingOf, numbersFrom}
+use Rattle.operations.specs.Laid.{padded}
+use Rattle.model.specs.Parts.{All}
+use Rattle.record.specs.Words.{allRows}
+use Rattle.record.specs.Fitting.{Eight}
+use Rattle.record.proofs.Back.{number-back, attempt-back}
 use Rattle.record.proofs.Rows.{numbers-whole}
 use Rattle.record.proofs.Walks.{walk-on, walk-end, every-on, every-off, every-end}
-use Rattle.rows.specs.Rows.{sameRow, oneRows, nearRow, nearRows}
+use Rattle.rows.specs.declared.Trial.{Trial}
+use Rattle.rows.specs.Rows.{trialAt, sameRow, oneRows, nearRow, nearRows}
 use Rattle.record.specs.Widths.{liveWidth}
 
 -- what a run at place b holds: place, count and eight numbers
@@ -35,14 +41,14 @@ module _ (l : List ℕ) (b n k i : ℕ) (whole : Bool) (inv : oneRows l (b + liv
   unfolding oneRows
   one-end h = every-end (λ (p : ℕ). p + liveWidth) (λ (p : ℕ). sameRow l p k) (b + liveWidth * i) (n - i) whole inv (omega arith)
 
-module _ (l : List ℕ) (b n i d whole : ℕ) (inv : nearRows d l (b + liveWidth * i) (n - i) ≡ whole) where
-  abbrev near : List ℕ → ℕ
-  near = foldl (λ (x p : ℕ). nearRow l p x) d
+module _ (l : List ℕ) (b n i : ℕ) (d whole : Trial) (inv : nearRows d l (b + liveWidth * i) (n - i) ≡ whole) where
+  abbrev near : List ℕ → Trial
+  near = foldl (λ (x : Trial) (p : ℕ). nearRow l p x) d
 
-  pub near-on : i < n → (d′ : ℕ) → d′ ≡ nearRow l (b + liveWidth * i) d → nearRows d′ l (b + liveWidth * (i + 1)) (n - (i + 1)) ≡ whole
+  pub near-on : i < n → (d′ : Trial) → d′ ≡ nearRow l (b + liveWidth * i) d → nearRows d′ l (b + liveWidth * (i + 1)) (n - (i + 1)) ≡ whole
   unfolding nearRows
   near-on h d′ ed =
-      ap (λ (x : ℕ). nearRows x l (b + liveWidth * (i + 1)) (n - (i + 1))) ed
+      ap (λ (x : Trial). nearRows x l (b + liveWidth * (i + 1)) (n - (i + 1))) ed
       ∙ walk-on (λ (p : ℕ). p + liveWidth) near (b + liveWidth * i) (n - i) whole inv (b + liveWidth * (i + 1)) (n - (i + 1)) (omega arith) (omega arith)
 
   pub near-end : n ≤ i → d ≡ whole
@@ -58,10 +64,17 @@ unfolding oneRows waitingOf fragmentAt multi
 one-rows l b zero k = refl
 one-rows l b (suc n) k = ap (λ (x : Bool). sameRow l b k && x) (one-rows l (b + liveWidth) n k)
 
-abbrev pub nearOne : ℕ → Waiting → ℕ
-nearOne d w = pick (multi (w .fragment)) (w .number) d
+abbrev pub trialOf : Waiting → Trial
+trialOf w = record { number = w .number; attempt = w .attempt }
 
-pub near-rows : (l : List ℕ) (b n d : ℕ) → nearRows d l b n ≡ foldl nearOne d (waitingOf l b n)
+-- the transaction of a row, read back behind the rows of A and before those of B
+pub trial-back : (n : ℕ) (A : List Waiting) (t : Waiting) (B : List Waiting) (b : ℕ) → All Eight A → Eight t → liveWidth * length A ≡ b → trialAt (padded n (allRows (A ++ t ∷ B))) b ≡ trialOf t
+trial-back n A t B b ea et eb = λ i. record { number = number-back n A t B b ea et eb i; attempt = attempt-back n A t B b ea et eb i }
+
+abbrev pub nearOne : Trial → Waiting → Trial
+nearOne d w = pick (multi (w .fragment)) (trialOf w) d
+
+pub near-rows : (l : List ℕ) (b n : ℕ) (d : Trial) → nearRows d l b n ≡ foldl nearOne d (waitingOf l b n)
 unfolding nearRows waitingOf fragmentAt multi
 near-rows l b zero d = refl
 near-rows l b (suc n) d = near-rows l (b + liveWidth) n (nearRow l b d)

@@ -15,6 +15,7 @@ use Rattle.model.specs.declared.Fragment.{Fragment}
 use Rattle.operations.specs.Laid.{padded, flat, laid}
 use Rattle.operations.specs.declared.Ran.{Ran}
 use Rattle.record.specs.Words.{stateWord, runWords}
+use Rattle.rows.specs.declared.Trial.{Trial}
 use Rattle.rows.specs.Rows.{withAnswer, answerRow, runRow, stateWordAfter, begunRow}
 use Rattle.model.specs.Limits.{answerWords}
 
@@ -32,15 +33,15 @@ padded-eight l h =
     zeros-take (suc a) (suc b) h = ap {B = List ℕ} (λ (x : List ℕ). 0 ∷ x) (zeros-take a b (omega arith))
 
 -- the words of an answer, as a row
-pub answer-row : (n d : ℕ) (o : Outcome) → length (o .numbers) ≤ 8 → answerRow n d (o .place) (length (o .numbers)) (padded 8 (o .numbers)) ≡ words (answer n d o)
+pub answer-row : (t d : Trial) (o : Outcome) → length (o .numbers) ≤ 8 → answerRow t d (o .place) (length (o .numbers)) (padded 8 (o .numbers)) ≡ words (answer (t .number) (d .number) (t .attempt) (d .attempt) o)
 unfolding words
-answer-row n d o h = ap {B = List ℕ} (λ (x : List ℕ). n ∷ d ∷ o .place ∷ length (o .numbers) ∷ x ++ (0 ∷ 0 ∷ 0 ∷ 0 ∷ [])) (padded-eight (o .numbers) h)
+answer-row t d o h = ap {B = List ℕ} (λ (x : List ℕ). t .number ∷ d .number ∷ o .place ∷ length (o .numbers) ∷ x ++ (t .attempt ∷ d .attempt ∷ 0 ∷ 0 ∷ [])) (padded-eight (o .numbers) h)
 
 pub length-words : (a : Answer) → length (words a) ≡ answerWords
 unfolding words
 length-words a =
     let ns : List ℕ = take 8 (a .outcome .numbers ++ replicate 8 0) in
-    omega (arith, length-append ns (replicate {A = ℕ} 4 0), length-take 8 (a .outcome .numbers ++ replicate 8 0), length-append (a .outcome .numbers) (replicate {A = ℕ} 8 0))
+    omega (arith, length-append ns (a .attempt ∷ a .dependenceAttempt ∷ replicate {A = ℕ} 2 0), length-take 8 (a .outcome .numbers ++ replicate 8 0), length-append (a .outcome .numbers) (replicate {A = ℕ} 8 0))
 
 pub length-all : (l : List Answer) → length (allWords l) ≡ answerWords * length l
 unfolding allWords
@@ -70,11 +71,11 @@ room-more l a room₀ n e h =
     ∙ ap (λ (x : List ℕ). x ++ drop (length (allWords (l ++ (a ∷ [])))) room₀) (sym both)
 
 -- a run's answer in the room
-pub answered-room : (l : List Answer) (n d : ℕ) (R : Steps.Ran) (r : Ran) (room room₀ : List ℕ) (a : ℕ) → r ≡ laid R → length (R .outcome .numbers) ≤ 8 → room ≡ filled l room₀ → length l ≡ a → answerWords * (a + 1) ≤ length room₀
-    → withAnswer a n d r room ≡ filled (l ++ (answer n d (R .outcome) ∷ [])) room₀
+pub answered-room : (l : List Answer) (t d : Trial) (R : Steps.Ran) (r : Ran) (room room₀ : List ℕ) (a : ℕ) → r ≡ laid R → length (R .outcome .numbers) ≤ 8 → room ≡ filled l room₀ → length l ≡ a → answerWords * (a + 1) ≤ length room₀
+    → withAnswer a t d r room ≡ filled (l ++ (answer (t .number) (d .number) (t .attempt) (d .attempt) (R .outcome) ∷ [])) room₀
 unfolding laid
-answered-room l n d R r room room₀ a er hr em el h =
-    (λ i. sets (em i) (answerWords * a) (answerRow n d (er i .place) (er i .count) (er i .numbers))) ∙ ap (sets (filled l room₀) (answerWords * a)) (answer-row n d (R .outcome) hr) ∙ room-more l (answer n d (R .outcome)) room₀ a el h
+answered-room l t d R r room room₀ a er hr em el h =
+    (λ i. sets (em i) (answerWords * a) (answerRow t d (er i .place) (er i .count) (er i .numbers))) ∙ ap (sets (filled l room₀) (answerWords * a)) (answer-row t d (R .outcome) hr) ∙ room-more l (answer (t .number) (d .number) (t .attempt) (d .attempt) (R .outcome)) room₀ a el h
 
 -- The run of one that ran
 

@@ -31,6 +31,12 @@ use Rattle.rows.proofs.same_coordinator.Kinds as same-coordinator-kinds
 use Rattle.rows.proofs.same_coordinator.Reads as same-coordinator
 use Rattle.rows.proofs.nearer.Kinds as nearer-kinds
 use Rattle.rows.proofs.nearer.Reads as nearer
+use Rattle.rows.proofs.trial_at.Kinds as trial-at-kinds
+use Rattle.rows.proofs.trial_at.Reads as trial-at
+use Rattle.rows.proofs.no_trial.Kinds as no-trial-kinds
+use Rattle.rows.proofs.no_trial.Reads as no-trial
+use Rattle.rows.proofs.raise_attempts.Kinds as raise-attempts-kinds
+use Rattle.rows.proofs.raise_attempts.Reads as raise-attempts
 
 pub answer-row-unique : Unique answer-row-kinds.ps answer-row-kinds.r answer-row.Learnt
 answer-row-unique κs a z z′ ws ws′ p q = (cc, refl)
@@ -76,3 +82,14 @@ same-coordinator-unique κs a z z′ ws ws′ p q = (cc, refl)
 
 pub nearer-unique : Unique nearer-kinds.ps nearer-kinds.r nearer.Learnt
 nearer-unique κs a z z′ ws ws′ p q = (cc, refl)
+
+pub trial-at-unique : Unique trial-at-kinds.ps trial-at-kinds.r trial-at.Learnt
+trial-at-unique κs a z z′ ws ws′ p q = (cc, refl)
+
+pub no-trial-unique : Unique no-trial-kinds.ps no-trial-kinds.r no-trial.Learnt
+no-trial-unique κs a z z′ ws ws′ p q = (cc, refl)
+
+pub raise-attempts-unique : Unique raise-attempts-kinds.ps raise-attempts-kinds.r raise-attempts.Learnt
+raise-attempts-unique κs a z z′ ws ws′ p q =
+    let b : ws .0 ≡ ws′ .0 = cc in
+    (refl, λ j. (b j, ws .1))

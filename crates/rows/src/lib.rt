@@ -2,26 +2,62 @@
 ghost use mathlib.Core.Path.{_≡_};
 ghost use Prim.Native.Nat.{_*_, _≤_, min};
 ghost use Rattle.record.specs.Widths.{runWidth};
-ghost use Rattle.rows.specs.Rows.{answerRow, runRow, stateWordAfter, begunRow, sameRow, nearRow, oneRows, nearRows, answeredNow, joinsQueue, blocking, mayTakeRow, heldRow, multiRow};
+ghost use Rattle.rows.specs.Rows.{raisedRow, raisedRows, trialAt, noTrial, answerRow, runRow, stateWordAfter, begunRow, sameRow, nearRow, oneRows, nearRows, answeredNow, joinsQueue, blocking, mayTakeRow, heldRow, multiRow};
 use model::Scheme;
 use operations::Ran;
 
 // The words of an answer, as a number of a place in the room.
 pub const ANSWER_WIDTH: u32 = 16;
 
-// The words of an answer.
+// A transaction in one of its attempts: an answer names its own and the one that it depends on so (02, L2). Of none both numbers are 0.
+pub struct Trial {
+    pub number: u32,
+    pub attempt: u32,
+}
+
+// No transaction.
+pub fn no_trial() -> Trial
+    ensures { λ t. ⌜ t ≡ noTrial ⌝ }
+{
+    Trial {
+        number: 0,
+        attempt: 0,
+    }
+}
+
+// The transaction whose row of the live row starts at a place, in its attempt.
+pub(crate) fn trial_in(live: &[u32], at: usize) -> Trial
+    requires { ⌜ at ≤ 137438953472 ⌝ }
+    ensures { λ t. ⌜ t ≡ trialAt (now (live .entry)) at ⌝ }
+{
+    let number = operations::number_at(live, at);
+    let attempt = operations::number_at(live, at + record::OPS_END);
+    Trial {
+        number: number,
+        attempt: attempt,
+    }
+}
+
+// The same at a number of a place.
+pub fn trial_at(live: &[u32], at: u32) -> Trial
+    ensures { λ t. ⌜ t ≡ trialAt (now (live .entry)) at ⌝ }
+{
+    trial_in(live, at as usize)
+}
+
+// The words of an answer of `own` with a dependence on `near`.
 pub fn answer_row(
-    number: u32,
-    dependence: u32,
+    own: Trial,
+    near: Trial,
     place: u32,
     count: u32,
     numbers: [u32; 8],
 ) -> [u32; model::ANSWER_WORDS]
-    ensures { λ r. ⌜ r ≡ answerRow number dependence place count numbers ⌝ }
+    ensures { λ r. ⌜ r ≡ answerRow own near place count numbers ⌝ }
 {
     [
-        number,
-        dependence,
+        own.number,
+        near.number,
         place,
         count,
         numbers[0],
@@ -32,8 +68,8 @@ pub fn answer_row(
         numbers[5],
         numbers[6],
         numbers[7],
-        0,
-        0,
+        own.attempt,
+        near.attempt,
         0,
         0,
     ]
@@ -145,36 +181,58 @@ pub fn one_coordinator(live: &[u32], b: u32, n: u32, k: u32) -> bool
     true
 }
 
-// The number of a row that is a multi's, d for a single's.
-pub(crate) fn nearer_at(live: &[u32], at: usize, d: u32) -> u32
+// The transaction of a row that is a multi's, d for a single's.
+pub(crate) fn nearer_at(live: &[u32], at: usize, d: Trial) -> Trial
     requires { ⌜ at ≤ 137438953472 ⌝ }
     ensures { λ r. ⌜ r ≡ nearRow (now (live .entry)) at d ⌝ }
 {
     if multi_at(live, at) {
-        operations::number_at(live, at)
+        trial_in(live, at)
     } else {
         d
     }
 }
 
 // The same at a number of a place.
-pub fn nearer(live: &[u32], at: u32, d: u32) -> u32
+pub fn nearer(live: &[u32], at: u32, d: Trial) -> Trial
     ensures { λ r. ⌜ r ≡ nearRow (now (live .entry)) at d ⌝ }
 {
     nearer_at(live, at as usize, d)
 }
 
-// "the nearest multi ahead of it": the last multi's number of n rows, 0 where there is none.
-pub fn nearest_multi(live: &[u32], b: u32, n: u32) -> u32
-    ensures { λ r. ⌜ r ≡ nearRows 0 (now (live .entry)) b n ⌝ }
+// "the nearest multi ahead of it": the last multi of n rows, none where there is none.
+pub fn nearest_multi(live: &[u32], b: u32, n: u32) -> Trial
+    ensures { λ r. ⌜ r ≡ nearRows noTrial (now (live .entry)) b n ⌝ }
 {
-    let mut d: u32 = 0;
+    let mut d = no_trial();
     let mut i: u32 = 0;
     while i < n {
         d = nearer_at(live, b as usize + record::LIVE_WORDS * i as usize, d);
         i = i + 1;
     }
     d
+}
+
+// One attempt more of a row of the live row; a row that is not all there stays.
+pub(crate) fn raise_at(live: &mut [u32], at: usize)
+    requires { ⌜ at ≤ 137438953472 ⌝ }
+    ensures { λ _. ⌜ now (live .exit) ≡ raisedRow (now (live .entry)) at ⌝ }
+{
+    let place = at + record::OPS_END;
+    if place < live.len() {
+        live[place] = least(live[place], model::TOP - 1) + 1;
+    }
+}
+
+// "one more after each undoing" (02, L2): of each of n rows of the live row from place b on.
+pub fn raise_attempts(live: &mut [u32], b: u32, n: u32)
+    ensures { λ _. ⌜ now (live .exit) ≡ raisedRows (now (live .entry)) b n ⌝ }
+{
+    let mut i: u32 = 0;
+    while i < n {
+        raise_at(live, b as usize + record::LIVE_WORDS * i as usize);
+        i = i + 1;
+    }
 }
 
 // Is the one that ran answered now: with nothing uncommitted, or a multi with one coordinator.
@@ -225,9 +283,9 @@ pub fn may_take(scheme: Scheme, runs: &[u32], uncommitted: u32) -> bool
     state == 2
 }
 
-// The words of the answer that run number i holds, with a dependence.
-pub fn held_row(runs: &[u32], i: u32, number: u32, dependence: u32) -> [u32; model::ANSWER_WORDS]
-    ensures { λ w. ⌜ w ≡ heldRow (now (runs .entry)) (runWidth * i) number dependence ⌝ }
+// The words of the answer of `own` that run number i holds, with a dependence on `near`.
+pub fn held_row(runs: &[u32], i: u32, own: Trial, near: Trial) -> [u32; model::ANSWER_WORDS]
+    ensures { λ w. ⌜ w ≡ heldRow (now (runs .entry)) (runWidth * i) own near ⌝ }
 {
     let b = record::RUN_WORDS * i as usize;
     let place = operations::number_at(runs, b + 4);
@@ -240,13 +298,7 @@ pub fn held_row(runs: &[u32], i: u32, number: u32, dependence: u32) -> [u32; mod
     let n5 = operations::number_at(runs, b + 11);
     let n6 = operations::number_at(runs, b + 12);
     let n7 = operations::number_at(runs, b + 13);
-    answer_row(
-        number,
-        dependence,
-        place,
-        count,
-        [n0, n1, n2, n3, n4, n5, n6, n7],
-    )
+    answer_row(own, near, place, count, [n0, n1, n2, n3, n4, n5, n6, n7])
 }
 
 pub fn least(a: u32, b: u32) -> u32

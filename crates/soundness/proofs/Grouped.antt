@@ -7,22 +7,26 @@ use mathlib.Core.Bool.{Bool, true, false, _&&_}
 use mathlib.Core.List.{List, [], _∷_, map}
 use lib.Dec.{leb, ltb}
 use lib.ListN.{length, getD}
-use Rattle.model.specs.Transactions.{finished, Uncommitted, Waiting, undoList, numbers, front}
+use Rattle.model.specs.Limits.{mostLive}
+use Rattle.model.specs.Transactions.{finished, Uncommitted, Waiting, undoList, numbers, attempts, front}
 use Rattle.model.specs.Refusals.{every, storable, behind, ready, sound}
 use Rattle.model.specs.Demand.{Rises}
 use Rattle.model.proofs.Chain.{all-map}
 use Rattle.model.proofs.Tests.{both, and-left, and-right, every-append, every-first, every-rest}
 use Rattle.model.proofs.Sound.{sound-parts, parts-sound}
 use Rattle.record.specs.Words.{liveRows}
-use Rattle.record.specs.View.{fragmentAt, waitingOf, memberAt, stateOf, uncommittedOf, viewOf}
-use Rattle.record.proofs.Queues.{length-waiting, length-uncommitted, rows-live, entries-all, numbers-rows, all-rows, rows-all}
+use Rattle.record.specs.View.{fragmentAt, attemptAt, waitingOf, memberAt, stateOf, uncommittedOf, viewOf}
+use Rattle.record.proofs.Queues.{length-waiting, length-uncommitted, rows-live, entries-all, numbers-rows, attempts-rows, all-rows, rows-all}
 use Rattle.soundness.specs.Groups.{rowOk, liveFrom, frontOk, nextOk, followsOk, behindFrom, membersOk, totalFrom, undoOk, groups}
 use Rattle.soundness.proofs.Words.{same, finished-words, Run, member-state, next-one, one-next, next-run, next-ran, front-run, front-good, front-one, one-front}
-use Rattle.model.specs.Parts.{All, cellInside, SoundOne, Stored, badFront, Sound}
+use Rattle.model.specs.Parts.{All, cellInside, SoundOne, Stored, badFront, Ahead, Sound}
 use Rattle.record.specs.Widths.{liveWidth, runWidth}
 
 abbrev Kept : ℕ → Uncommitted → Type 0
 Kept ct u = storable ct (u .first) ≡ true
+
+abbrev Tried : ℕ → Type 0
+Tried a = 1 ≤ a
 
 abbrev Ones : Uncommitted → Type 0
 Ones u = u .ran ≤ 1
@@ -30,19 +34,48 @@ Ones u = u .ran ≤ 1
 -- The live rows
 
 module _ (live : List ℕ) (top ct : ℕ) where
-  waiting-parts : (n b low : ℕ) → liveFrom top ct live b n low ≡ true → Rises low top (map (λ (w : Waiting). w .number) (waitingOf live b n)) × All (Stored ct) (waitingOf live b n)
-  unfolding liveFrom rowOk waitingOf
-  waiting-parts zero b low h = (leb-true low top h, tt)
-  waiting-parts (suc n) b low h =
-      let r = and-left (rowOk ct live b low) (liveFrom top ct live (b + liveWidth) n (getD live b 0)) h in
-      let p = waiting-parts n (b + liveWidth) (getD live b 0) (and-right (rowOk ct live b low) (liveFrom top ct live (b + liveWidth) n (getD live b 0)) h) in
-      ((ltb-true low (getD live b 0) (and-left (ltb low (getD live b 0)) (storable ct (fragmentAt live b)) r), p .0), (and-right (ltb low (getD live b 0)) (storable ct (fragmentAt live b)) r, p .1))
+  abbrev tries : ℕ → ℕ → List ℕ
+  tries b n = map (λ (w : Waiting). w .attempt) (waitingOf live b n)
 
-  parts-waiting : (n b low : ℕ) → Rises low top (map (λ (w : Waiting). w .number) (waitingOf live b n)) → All (Stored ct) (waitingOf live b n) → liveFrom top ct live b n low ≡ true
+  abbrev rest : ℕ → ℕ → ℕ → Bool
+  rest n b i = liveFrom top ct live (b + liveWidth) n (getD live b 0) (1 + i)
+
+  abbrev above : ℕ → ℕ → Bool
+  above b low = ltb low (getD live b 0)
+
+  abbrev least : ℕ → Bool
+  least b = leb 1 (attemptAt live b)
+
+  abbrev most : ℕ → ℕ → Bool
+  most b i = leb (attemptAt live b + i) mostLive
+
+  abbrev kept : ℕ → Bool
+  kept b = storable ct (fragmentAt live b)
+
+  waiting-parts : (n b low i : ℕ) → liveFrom top ct live b n low i ≡ true
+      → Rises low top (map (λ (w : Waiting). w .number) (waitingOf live b n)) × All (Stored ct) (waitingOf live b n) × All Tried (tries b n) × Ahead i (tries b n)
   unfolding liveFrom rowOk waitingOf
-  parts-waiting zero b low h k = le-leb low top h
-  parts-waiting (suc n) b low h k =
-      both (rowOk ct live b low) (liveFrom top ct live (b + liveWidth) n (getD live b 0)) (both (ltb low (getD live b 0)) (storable ct (fragmentAt live b)) (lt-ltb low (getD live b 0) (h .0)) (k .0)) (parts-waiting n (b + liveWidth) (getD live b 0) (h .1) (k .1))
+  waiting-parts zero b low i h = (leb-true low top h, tt, tt, tt)
+  waiting-parts (suc n) b low i h =
+      let r : ((above b low && (least b && most b i)) && kept b) ≡ true = and-left (rowOk ct live b low i) (rest n b i) h in
+      let q : (above b low && (least b && most b i)) ≡ true = and-left (above b low && (least b && most b i)) (kept b) r in
+      let t : (least b && most b i) ≡ true = and-right (above b low) (least b && most b i) q in
+      let p = waiting-parts n (b + liveWidth) (getD live b 0) (1 + i) (and-right (rowOk ct live b low i) (rest n b i) h) in (
+        (ltb-true low (getD live b 0) (and-left (above b low) (least b && most b i) q), p .0),
+        (and-right (above b low && (least b && most b i)) (kept b) r, p .1),
+        (leb-true 1 (attemptAt live b) (and-left (least b) (most b i) t), p .2),
+        (leb-true (attemptAt live b + i) mostLive (and-right (least b) (most b i) t), p .3),
+      )
+
+  parts-waiting : (n b low i : ℕ) → Rises low top (map (λ (w : Waiting). w .number) (waitingOf live b n)) → All (Stored ct) (waitingOf live b n) → All Tried (tries b n) → Ahead i (tries b n)
+      → liveFrom top ct live b n low i ≡ true
+  unfolding liveFrom rowOk waitingOf
+  parts-waiting zero b low i h k t a = le-leb low top h
+  parts-waiting (suc n) b low i h k t a =
+      both (rowOk ct live b low i) (rest n b i)
+      (both (above b low && (least b && most b i)) (kept b)
+      (both (above b low) (least b && most b i) (lt-ltb low (getD live b 0) (h .0)) (both (least b) (most b i) (le-leb 1 (attemptAt live b) (t .0)) (le-leb (attemptAt live b + i) mostLive (a .0)))) (k .0))
+      (parts-waiting n (b + liveWidth) (getD live b 0) (1 + i) (h .1) (k .1) (t .1) (a .1))
 
 -- The uncommitted ones
 
@@ -142,7 +175,7 @@ module _ (count largest uncommitted waiting : ℕ) (live runs undo : List ℕ) w
   a3 = leb (uncommitted + waiting) 64
 
   abbrev a4 : Bool
-  a4 = liveFrom largest count live 0 (uncommitted + waiting) 0
+  a4 = liveFrom largest count live 0 (uncommitted + waiting) 0 0
 
   abbrev a5 : Bool
   a5 = membersOk live runs uncommitted
@@ -157,15 +190,18 @@ module _ (count largest uncommitted waiting : ℕ) (live runs undo : List ℕ) w
   numbered : numbers us ws ≡ map (λ (x : Waiting). x .number) (waitingOf live 0 (uncommitted + waiting))
   numbered = numbers-rows us ws ∙ ap (map (λ (x : Waiting). x .number)) rows
 
-  live-parts : a4 ≡ true → Rises 0 largest (numbers us ws) × All (Kept count) us × All (Stored count) ws
-  live-parts h =
-      let p = waiting-parts live largest count (uncommitted + waiting) 0 0 h in
-      let q = all-rows (Stored count) us ws (subst (All (Stored count)) (sym rows) (p .1)) in
-      (subst (Rises 0 largest) (sym numbered) (p .0), q .0, q .1)
+  tried : attempts us ws ≡ map (λ (x : Waiting). x .attempt) (waitingOf live 0 (uncommitted + waiting))
+  tried = attempts-rows us ws ∙ ap (map (λ (x : Waiting). x .attempt)) rows
 
-  parts-live : Rises 0 largest (numbers us ws) → All (Kept count) us → All (Stored count) ws → a4 ≡ true
-  parts-live h k m =
-      parts-waiting live largest count (uncommitted + waiting) 0 0 (subst (Rises 0 largest) numbered h) (subst (All (Stored count)) rows (rows-all (Stored count) us ws k m))
+  live-parts : a4 ≡ true → Rises 0 largest (numbers us ws) × All (Kept count) us × All (Stored count) ws × All Tried (attempts us ws) × Ahead 0 (attempts us ws)
+  live-parts h =
+      let p = waiting-parts live largest count (uncommitted + waiting) 0 0 0 h in
+      let q = all-rows (Stored count) us ws (subst (All (Stored count)) (sym rows) (p .1)) in
+      (subst (Rises 0 largest) (sym numbered) (p .0), q .0, q .1, subst (All Tried) (sym tried) (p .2), subst (Ahead 0) (sym tried) (p .3))
+
+  parts-live : Rises 0 largest (numbers us ws) → All (Kept count) us → All (Stored count) ws → All Tried (attempts us ws) → Ahead 0 (attempts us ws) → a4 ≡ true
+  parts-live h k m t a =
+      parts-waiting live largest count (uncommitted + waiting) 0 0 0 (subst (Rises 0 largest) numbered h) (subst (All (Stored count)) rows (rows-all (Stored count) us ws k m)) (subst (All Tried) tried t) (subst (Ahead 0) tried a)
 
   to-sound : groups count largest uncommitted waiting live runs undo ≡ true → Sound count largest us ws
   unfolding groups undoOk
@@ -184,6 +220,8 @@ module _ (count largest uncommitted waiting : ℕ) (live runs undo : List ℕ) w
         sixteen = omega (arith, leb-true uncommitted 16 (and-right a1 a2 h2));
         sixtyFour = omega (arith, leb-true (uncommitted + waiting) 64 (and-right (a1 && a2) a3 h3));
         rises = l .0;
+        tried = l .3;
+        ahead = l .4;
         each = m .0;
         waiting = l .2;
         ones = m .1;
@@ -203,7 +241,7 @@ module _ (count largest uncommitted waiting : ℕ) (live runs undo : List ℕ) w
       (both (a1 && a2) a3
       (both a1 a2 (le-leb count 4096 (s .cells)) (le-leb uncommitted 16 (omega (arith, s .sixteen))))
       (le-leb (uncommitted + waiting) 64 (omega (arith, s .sixtyFour))))
-      (parts-live (s .rises) kept (s .waiting)))
+      (parts-live (s .rises) kept (s .waiting) (s .tried) (s .ahead)))
       (parts-members live runs undo count uncommitted (s .each) (s .ones) (s .front) (s .ready)))
       (sym (ap (every (cellInside count)) (entries-all live runs undo 0 0 0 uncommitted)) ∙ inside-each live runs undo count us (s .each))
 

@@ -101,10 +101,10 @@ stored-by l at ct n e h =
 
 -- the same from each answer
 pub stored-is : (l : List ℕ) (at ct n : ℕ) → getD l (at + 3) 0 ≡ n → n ≤ 8 → (p q a z f k : Bool) → leb 1 n ≡ p → leb n 8 ≡ q → every (storableOp ct) (opsFrom l (at + 4) n) ≡ a
-    → every isZero (numbersFrom l (at + 4 + opWidth * n) (at + liveWidth - (at + 4 + opWidth * n))) ≡ z → leb (getD l (at + 1) 0) 3 ≡ f → kindOk (getD l (at + 1) 0) (getD l (at + 2) 0) ≡ k
+    → every isZero (numbersFrom l (at + 4 + opWidth * n) (at + 28 - (at + 4 + opWidth * n))) ≡ z → leb (getD l (at + 1) 0) 3 ≡ f → kindOk (getD l (at + 1) 0) (getD l (at + 2) 0) ≡ k
     → (p && q && a && z && f && k) ≡ storable ct (fragmentAt l at)
 stored-is l at ct n e h p q a z f k ep eq ea ez ef ek =
-    let w : opsWidth - opWidth * n ≡ at + liveWidth - (at + 4 + opWidth * n) = omega arith in
+    let w : opsWidth - opWidth * n ≡ at + 28 - (at + 4 + opWidth * n) = omega arith in
     sym (stored-by l at ct n e h ∙ (λ i. ep i && eq i && ea i && (ap (λ (x : ℕ). every isZero (numbersFrom l (at + 4 + opWidth * n) x)) w ∙ ez) i && ef i && ek i))
 
 -- "operations not 1 to 8"

@@ -18,20 +18,20 @@ on a r w h e = ap (λ (x : Bool). x && r) (sym e) ∙ h
 pub off : (a r w : Bool) → (a && r) ≡ w → a ≡ false → false ≡ w
 off a r w h e = ap (λ (x : Bool). x && r) (sym e) ∙ h
 
-module _ (largest cells : ℕ) (live : List ℕ) (b left low : ℕ) (whole : Bool) (inv : liveFrom largest cells live b left low ≡ whole) where
+module _ (largest cells : ℕ) (live : List ℕ) (b left low ahead : ℕ) (whole : Bool) (inv : liveFrom largest cells live b left low ahead ≡ whole) where
   abbrev rows : List ℕ → Bool
-  rows bs = liveAt largest cells live bs low
+  rows bs = liveAt largest cells live bs low ahead
 
   module _ (more : 0 < left) where
-    live-next : (rowOk cells live b low && liveFrom largest cells live (b + liveWidth) (left - 1) (getD live b 0)) ≡ whole
+    live-next : (rowOk cells live b low ahead && liveFrom largest cells live (b + liveWidth) (left - 1) (getD live b 0) (1 + ahead)) ≡ whole
     unfolding liveFrom
     live-next = walk-on (λ (p : ℕ). p + liveWidth) rows b left whole inv (b + liveWidth) (left - 1) refl (omega arith)
 
-    pub live-on : (m : ℕ) → m ≡ getD live b 0 → rowOk cells live b low ≡ true → liveFrom largest cells live (b + liveWidth) (left - 1) m ≡ whole
-    live-on m em e = ap (liveFrom largest cells live (b + liveWidth) (left - 1)) em ∙ on (rowOk cells live b low) _ whole live-next e
+    pub live-on : (m a : ℕ) → m ≡ getD live b 0 → a ≡ 1 + ahead → rowOk cells live b low ahead ≡ true → liveFrom largest cells live (b + liveWidth) (left - 1) m a ≡ whole
+    live-on m a em ea e = (λ i. liveFrom largest cells live (b + liveWidth) (left - 1) (em i) (ea i)) ∙ on (rowOk cells live b low ahead) _ whole live-next e
 
-    pub live-off : rowOk cells live b low ≡ false → false ≡ whole
-    live-off e = off (rowOk cells live b low) _ whole live-next e
+    pub live-off : rowOk cells live b low ahead ≡ false → false ≡ whole
+    live-off e = off (rowOk cells live b low ahead) _ whole live-next e
 
   pub live-end : left ≤ 0 → leb low largest ≡ whole
   unfolding liveFrom

@@ -4,13 +4,14 @@ use mathlib.Core.Bool.{Bool, true, _&&_, _||_}
 use mathlib.Core.List.{List, [], _∷_, map}
 use lib.Dec.{leb, ltb, eqb}
 use lib.ListN.{getD}
+use Rattle.model.specs.Limits.{mostLive}
 use Rattle.model.specs.Refusals.{every, storable, formedOp, formedKind}
 use Rattle.model.specs.declared.Op.{Op}
 use Rattle.model.specs.declared.Fragment.{Fragment}
 use Rattle.model.specs.declared.Undo.{Undo}
 use Rattle.operations.specs.Laid.{entriesOf}
 use Rattle.record.specs.Walk.{walk, places}
-use Rattle.record.specs.View.{opAt, fragmentAt}
+use Rattle.record.specs.View.{opAt, fragmentAt, attemptAt}
 unfoldable pub use Rattle.record.specs.View.{entriesFrom as totalFrom}
 use Rattle.record.specs.Widths.{opWidth, liveWidth, runWidth}
 
@@ -29,18 +30,22 @@ storableOp cells o = formedOp o && ltb (o .cell) cells
 abbrev pub kindOk : ℕ → ℕ → Bool
 kindOk flags coordinator = formedKind (record { flags = flags; coordinator = coordinator; count = 0; row = [] })
 
--- the live row that starts at b: its number above the last one, its fragment storable
-unfoldable pub rowOk : ℕ → List ℕ → ℕ → ℕ → Bool
-rowOk cells live b low = ltb low (getD live b 0) && storable cells (fragmentAt live b)
+-- an attempt of one that so many are ahead of (02, L2)
+abbrev pub attemptOk : ℕ → ℕ → Bool
+attemptOk attempt ahead = leb 1 attempt && leb (attempt + ahead) mostLive
 
--- the live rows at these places, behind the number `low`
-abbrev pub liveAt : ℕ → ℕ → List ℕ → List ℕ → ℕ → Bool
-liveAt largest cells live [] low = leb low largest
-liveAt largest cells live (b ∷ bs) low = rowOk cells live b low && liveAt largest cells live bs (getD live b 0)
+-- the live row that starts at b: its number above the last one, its attempt one that so many ahead allow, its fragment storable
+unfoldable pub rowOk : ℕ → List ℕ → ℕ → ℕ → ℕ → Bool
+rowOk cells live b low ahead = ltb low (getD live b 0) && attemptOk (attemptAt live b) ahead && storable cells (fragmentAt live b)
+
+-- the live rows at these places, behind the number `low` and so many transactions
+abbrev pub liveAt : ℕ → ℕ → List ℕ → List ℕ → ℕ → ℕ → Bool
+liveAt largest cells live [] low ahead = leb low largest
+liveAt largest cells live (b ∷ bs) low ahead = rowOk cells live b low ahead && liveAt largest cells live bs (getD live b 0) (1 + ahead)
 
 -- n live rows, the first of which starts at b
-unfoldable pub liveFrom : ℕ → ℕ → List ℕ → ℕ → ℕ → ℕ → Bool
-liveFrom largest cells live b n low = liveAt largest cells live (places b liveWidth n) low
+unfoldable pub liveFrom : ℕ → ℕ → List ℕ → ℕ → ℕ → ℕ → ℕ → Bool
+liveFrom largest cells live b n low ahead = liveAt largest cells live (places b liveWidth n) low ahead
 
 -- the run that starts at c: its reply
 unfoldable pub replyOk : List ℕ → ℕ → Bool
@@ -91,6 +96,6 @@ undoOk cells undo b n = every (cellUnder cells) (entriesOf undo b n)
 unfoldable pub groups : ℕ → ℕ → ℕ → ℕ → List ℕ → List ℕ → List ℕ → Bool
 groups count largest uncommitted waiting live runs undo =
     leb count 4096 && leb uncommitted 16 && leb (uncommitted + waiting) 64
-    && liveFrom largest count live 0 (uncommitted + waiting) 0
+    && liveFrom largest count live 0 (uncommitted + waiting) 0 0
     && membersOk live runs uncommitted
     && undoOk count undo 0 (totalFrom runs 0 uncommitted)

@@ -127,30 +127,41 @@ pub(crate) fn is_storable(live: &[u32], b: u32, cells: u32) -> bool
     operations::is_inside(cells, f)
 }
 
-// "live numbers 0, not rising", "a stored fragment that 4 or 5 would refuse": of the live row that starts at b, behind the number `low`.
-pub(crate) fn row_ok(live: &[u32], b: u32, low: u32, cells: u32) -> bool
-    ensures { λ r. ⌜ r ≡ rowOk cells (now (live .entry)) b low ⌝ }
+// "live numbers 0, not rising", "a stored fragment that 4 or 5 would refuse", and "an attempt is at least 1, and attempt plus transactions ahead at
+// most 64" (02, L2): of the live row that starts at b, behind the number `low` and so many transactions.
+pub(crate) fn row_ok(live: &[u32], b: u32, low: u32, ahead: u32, cells: u32) -> bool
+    requires { ⌜ ahead ≤ 64 ⌝ }
+    ensures { λ r. ⌜ r ≡ rowOk cells (now (live .entry)) b low ahead ⌝ }
 {
     let number = operations::number_at(live, b as usize);
     if number <= low {
         return false;
     }
+    let attempt = record::attempt_at(live, b);
+    if attempt < 1 {
+        return false;
+    }
+    if model::MOST_LIVE - ahead < attempt {
+        return false;
+    }
     is_storable(live, b, cells)
 }
 
-// The first n live rows: numbers that rise to at most the largest accepted, fragments that may be stored.
+// The first n live rows: numbers that rise to at most the largest accepted, attempts that those ahead allow, fragments that may be stored.
 pub(crate) fn live_ok(live: &[u32], n: u32, largest: u32, cells: u32) -> bool
     requires { ⌜ n ≤ 64 ⌝ }
-    ensures { λ r. ⌜ r ≡ liveFrom largest cells (now (live .entry)) 0 n 0 ⌝ }
+    ensures { λ r. ⌜ r ≡ liveFrom largest cells (now (live .entry)) 0 n 0 0 ⌝ }
 {
     let mut b: u32 = 0;
     let mut left = n;
     let mut low: u32 = 0;
+    let mut ahead: u32 = 0;
     while 0 < left {
-        if !row_ok(live, b, low, cells) {
+        if !row_ok(live, b, low, ahead, cells) {
             return false;
         }
         low = operations::number_at(live, b as usize);
+        ahead = ahead + 1;
         b = b + record::LIVE_WIDTH;
         left = left - 1;
     }

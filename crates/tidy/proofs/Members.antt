@@ -16,7 +16,7 @@ use Rattle.model.proofs.Tests.{and-left, and-right}
 use Rattle.model.proofs.Sound.{sound-parts, entries-most}
 use Rattle.operations.specs.Laid.{padded, flat, entriesOf}
 use Rattle.record.specs.Words.{rowWords, allRows, stateWord, replyWord, heldOutcome, outcomeWords, runWords, allRuns, liveRows}
-use Rattle.record.specs.View.{fragmentAt, waitingOf, numbersFrom, zeros, stateOf, replyOf, memberAt, uncommittedOf, viewOf}
+use Rattle.record.specs.View.{fragmentAt, attemptAt, waitingOf, numbersFrom, zeros, stateOf, replyOf, memberAt, uncommittedOf, viewOf}
 use Rattle.record.proofs.Rows.{length-numbers, numbers-add, numbers-same, getD-numbers, getD-sets-before, getD-sets-after, getD-padded}
 use Rattle.record.proofs.Queues.{length-waiting, length-entries, length-uncommitted, rows-live, entries-all}
 use Rattle.tidy.specs.Runs.{used, tidyRun, tidyRuns, entriesFrom}
@@ -35,7 +35,7 @@ numbers-take l n h =
 
 -- The live row
 
-row-at : (l : List ℕ) (b : ℕ) → rowWords (getD l b 0) (fragmentAt l b) ≡ numbersFrom l b liveWidth
+row-at : (l : List ℕ) (b : ℕ) → rowWords (getD l b 0) (attemptAt l b) (fragmentAt l b) ≡ numbersFrom l b liveWidth
 unfolding rowWords fragmentAt numbersFrom
 row-at l b = simp add-assoc
 

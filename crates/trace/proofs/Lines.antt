@@ -8,7 +8,7 @@ use lib.ListN.{length, getD, set, drop, length-append, drop-of-length-le}
 use lib.Seq.{sets, set-comm, drop-cons}
 use Rattle.model.specs.Limits.{mostOperations, answerWords}
 use Rattle.trace.specs.Format.{wordAt, wordsFrom}
-use Rattle.trace.specs.Text.{decimal, fieldsFrom, lineFrom, lineE, lineA, lineC}
+use Rattle.trace.specs.Text.{decimal, fieldsFrom, lineFrom, lineE, toldFrom, lineA, lineC}
 use Rattle.trace.proofs.Digits.{digits, length-digits, digits-decimal, length-decimal}
 
 -- two runs, one behind the other
@@ -112,37 +112,45 @@ unfolding fieldsFrom
 length-fields row b zero = omega arith
 length-fields row b (suc n) = omega (arith, length-append (decimal (getD row b 0)) (fieldsFrom row (b + 1) n), length-decimal (getD row b 0), length-fields row (b + 1) n)
 
--- a whole line
-module _ (letter : ℕ) (row : List ℕ) (base n at : ℕ) where
-  pub line-place : (p : ℕ) → p ≡ at + 1 + length (fieldsFrom row base n) → p + 1 ≡ at + length (lineFrom letter row base n)
-  unfolding lineFrom
-  line-place p e = omega (arith, length-append (fieldsFrom row base n) (10 ∷ []))
+pub fields-near : (row : List ℕ) (b n p q : ℕ) → q ≡ p + length (fieldsFrom row b n) → q ≤ p + 11 * n
+fields-near row b n p q e = omega (arith, length-fields row b n)
 
-  pub line-is : (b b1 b2 b3 : List ℕ) (p : ℕ) → b1 ≡ set b at letter → b2 ≡ sets b1 (at + 1) (fieldsFrom row base n) → p ≡ at + 1 + length (fieldsFrom row base n) → b3 ≡ set b2 p 10
-      → b3 ≡ sets b at (lineFrom letter row base n)
-  unfolding lineFrom
-  line-is b b1 b2 b3 p e1 e2 ep e3 =
-      let ws : List ℕ = letter ∷ fieldsFrom row base n in
-      let q : p ≡ at + length ws = omega arith in
-      let w : b2 ≡ sets b at ws = e2 ∙ ap (λ (x : List ℕ). sets x (at + 1) (fieldsFrom row base n)) e1 ∙ ap (λ (x : ℕ). sets (set b at letter) x (fieldsFrom row base n)) (add-one at) in
-      e3 ∙ (λ k. set (w k) (q k) 10) ∙ sets-then b at ws (10 ∷ [])
+-- two texts, one written behind the other
+pub behind : (b b1 b2 x y : List ℕ) (at p q : ℕ) → p ≡ at + length x → b1 ≡ sets b at x → q ≡ p + length y → b2 ≡ sets b1 p y → (q ≡ at + length (x ++ y)) × (b2 ≡ sets b at (x ++ y))
+behind b b1 b2 x y at p q ep e1 eq e2 = (omega (arith, length-append x y), e2 ∙ (λ k. sets (e1 k) (ep k) y) ∙ sets-then b at x y)
 
-  pub length-line : length (lineFrom letter row base n) ≤ 11 * n + 2
-  unfolding lineFrom
-  length-line = omega (arith, length-append (fieldsFrom row base n) (10 ∷ []), length-fields row base n)
+-- a letter, a text and the line's end
+pub line-is : (letter : ℕ) (x b b1 b2 b3 : List ℕ) (at p : ℕ) → b1 ≡ set b at letter → p ≡ at + 1 + length x → b2 ≡ sets b1 (at + 1) x → b3 ≡ set b2 p 10
+    → (p + 1 ≡ at + length (letter ∷ (x ++ (10 ∷ [])))) × (b3 ≡ sets b at (letter ∷ (x ++ (10 ∷ []))))
+line-is letter x b b1 b2 b3 at p e1 ep e2 e3 =
+    let f = behind b b1 b2 (letter ∷ []) x at (at + 1) p (omega arith) e1 ep e2 in
+    behind b b2 b3 (letter ∷ x) (10 ∷ []) at p (p + 1) (f .0) (f .1) (omega arith) e3
+
+pub length-line : (letter : ℕ) (row : List ℕ) (base n : ℕ) → length (lineFrom letter row base n) ≤ 11 * n + 2
+unfolding lineFrom
+length-line letter row base n = omega (arith, length-append (fieldsFrom row base n) (10 ∷ []), length-fields row base n)
 
 -- every line fits 160 bytes
 pub length-e : (position number : ℕ) → length (lineE position number) ≤ 24
 unfolding lineE
-length-e position number = length-line 101 (position ∷ number ∷ []) 0 2 0
+length-e position number = length-line 101 (position ∷ number ∷ []) 0 2
 
 pub length-c : (cell content : ℕ) → length (lineC cell content) ≤ 24
 unfolding lineC
-length-c cell content = length-line 99 (cell ∷ content ∷ []) 0 2 0
+length-c cell content = length-line 99 (cell ∷ content ∷ []) 0 2
 
-pub length-a : (room : List ℕ) (i : ℕ) → length (lineA room i) ≤ 134
+-- an answer has two fields, two more and at most ten behind them
+abbrev lastFields : List ℕ → ℕ → ℕ
+lastFields room b = 2 + min (getD room (b + 3) 0) mostOperations
+
+pub length-told : (room : List ℕ) (b : ℕ) → length (toldFrom room b) ≤ 154
+unfolding toldFrom
+length-told room b =
+    omega (arith, length-append (fieldsFrom room b 2) (fieldsFrom room (b + 12) 2 ++ fieldsFrom room (b + 2) (lastFields room b)), length-append (fieldsFrom room (b + 12) 2) (fieldsFrom room (b + 2) (lastFields room b)), length-fields room b 2, length-fields room (b + 12) 2, length-fields room (b + 2) (lastFields room b))
+
+pub length-a : (room : List ℕ) (i : ℕ) → length (lineA room i) ≤ 156
 unfolding lineA
-length-a room i = omega (arith, length-line 97 room (answerWords * i) (4 + min (getD room (answerWords * i + 3) 0) mostOperations) 0)
+length-a room i = omega (arith, length-append (toldFrom room (answerWords * i)) (10 ∷ []), length-told room (answerWords * i))
 
 -- one turn of writing a text
 pub text-turn : (b b′ text all : List ℕ) (at i w : ℕ) → i < length text → w ≡ getD text i 0 → b′ ≡ set b (at + i) w → sets b (at + i) (drop i text) ≡ all → sets b′ (at + (i + 1)) (drop (i + 1) text) ≡ all
@@ -157,15 +165,14 @@ text-start b text at = let z : at + 0 ≡ at = omega arith in ap (λ (x : ℕ). 
 pub text-end : (b text all : List ℕ) (at i : ℕ) → length text ≤ i → sets b (at + i) (drop i text) ≡ all → b ≡ all
 text-end b text all at i h inv = sym (ap (sets b (at + i)) (drop-of-length-le text h)) ∙ inv
 
--- the numbers of an answer: as many as it says, at most eight
-pub answer-few : (room : List ℕ) (i count : ℕ) → count ≡ getD room (answerWords * i + 3) 0 → count < 8 → lineFrom 97 room (answerWords * i) (4 + count) ≡ lineA room i
-unfolding lineA
-answer-few room i count e h = let z : 4 + count ≡ 4 + min (getD room (answerWords * i + 3) 0) mostOperations = omega arith in ap (lineFrom 97 room (answerWords * i)) z
-
-pub answer-many : (room : List ℕ) (i count : ℕ) → count ≡ getD room (answerWords * i + 3) 0 → 8 ≤ count → lineFrom 97 room (answerWords * i) 12 ≡ lineA room i
-unfolding lineA
-answer-many room i count e h = let z : 12 ≡ 4 + min (getD room (answerWords * i + 3) 0) mostOperations = omega arith in ap (lineFrom 97 room (answerWords * i)) z
-
--- a line that was written is another name's line
-pub named : (b b′ xs ys : List ℕ) (at p : ℕ) → xs ≡ ys → p ≡ at + length xs → b′ ≡ sets b at xs → (p ≡ at + length ys) × (b′ ≡ sets b at ys)
-named b b′ xs ys at p e ep eb = (ep ∙ ap (λ (x : List ℕ). at + length x) e, eb ∙ ap (sets b at) e)
+-- the fields of an answer: with as many numbers as it says, at most eight
+pub told-is : (room : List ℕ) (b at : ℕ) (l : List ℕ) {n p q r : ℕ} {l1 l2 l3 : List ℕ} → n ≡ lastFields room b
+    → p ≡ at + length (fieldsFrom room b 2) → l1 ≡ sets l at (fieldsFrom room b 2)
+    → q ≡ p + length (fieldsFrom room (b + 12) 2) → l2 ≡ sets l1 p (fieldsFrom room (b + 12) 2)
+    → r ≡ q + length (fieldsFrom room (b + 2) n) → l3 ≡ sets l2 q (fieldsFrom room (b + 2) n)
+    → (r ≡ at + length (toldFrom room b)) × (l3 ≡ sets l at (toldFrom room b))
+unfolding toldFrom
+told-is room b at l {n} {p} {q} {r} {l1} {l2} {l3} en ep e1 eq e2 er e3 =
+    let z : fieldsFrom room (b + 2) n ≡ fieldsFrom room (b + 2) (lastFields room b) = ap (fieldsFrom room (b + 2)) en in
+    let f = behind l1 l2 l3 (fieldsFrom room (b + 12) 2) (fieldsFrom room (b + 2) (lastFields room b)) p q r eq e2 (er ∙ ap (λ (x : List ℕ). q + length x) z) (e3 ∙ ap (sets l2 q) z) in
+    behind l l1 l3 (fieldsFrom room b 2) (fieldsFrom room (b + 12) 2 ++ fieldsFrom room (b + 2) (lastFields room b)) at p r ep e1 (f .0) (f .1)

@@ -43,14 +43,20 @@ lineFrom letter row b n = letter ∷ (fieldsFrom row b n ++ (10 ∷ []))
 unfoldable pub lineE : ℕ → ℕ → List ℕ
 lineE position number = lineFrom 101 (position ∷ number ∷ []) 0 2
 
--- "then `a` transaction, dependence, place, count and that many numbers for each answer": the answer whose 16 words start at 16 * i, of
--- which the first four and at most eight more are printed
+-- "then `a` transaction, dependence, place, count and that many numbers for each answer"; of both attempts, which are the thirteenth and the
+-- fourteenth word of an answer, 02, L2: "The trace program prints both after the dependence". The fields of the answer whose words start at b:
+-- transaction and dependence, both attempts, place, count and at most eight numbers
+unfoldable pub toldFrom : List ℕ → ℕ → List ℕ
+toldFrom room b = fieldsFrom room b 2 ++ (fieldsFrom room (b + 12) 2 ++ fieldsFrom room (b + 2) (2 + min (getD room (b + 3) 0) mostOperations))
+
+-- the line of the answer whose 16 words start at 16 * i
 unfoldable pub lineA : List ℕ → ℕ → List ℕ
-lineA room i = lineFrom 97 room (answerWords * i) (4 + min (getD room (answerWords * i + 3) 0) mostOperations)
+lineA room i = 97 ∷ (toldFrom room (answerWords * i) ++ (10 ∷ []))
 
 -- the same of an answer that is known
 unfoldable pub answerLine : Answer → List ℕ
-answerLine a = 97 ∷ (fields (a .number ∷ a .dependence ∷ a .outcome .place ∷ length (a .outcome .numbers) ∷ a .outcome .numbers) ++ (10 ∷ []))
+answerLine a =
+    97 ∷ (fields (a .number ∷ a .dependence ∷ a .attempt ∷ a .dependenceAttempt ∷ a .outcome .place ∷ length (a .outcome .numbers) ∷ a .outcome .numbers) ++ (10 ∷ []))
 
 -- "and at the end `c` cell and content for each cell"
 unfoldable pub lineC : ℕ → ℕ → List ℕ

@@ -5,7 +5,7 @@ ghost use Prim.Native.Nat.{_+_, _*_, _<_, _≤_};
 ghost use lib.ListN.{length, getD, set};
 ghost use lib.Seq.{sets};
 ghost use Rattle.trace.specs.Format.{wordAt, wordsFrom, opFrom, eventAt, shapeOf};
-ghost use Rattle.trace.specs.Text.{decimal, fieldsFrom, lineFrom, lineE, lineA, lineC, badTrace, badScheme};
+ghost use Rattle.trace.specs.Text.{decimal, fieldsFrom, lineFrom, lineE, toldFrom, lineA, lineC, badTrace, badScheme};
 use model::Event;
 use model::Fragment;
 use model::Op;
@@ -226,18 +226,33 @@ pub fn put_e(buffer: &mut [u8], at: u32, position: u32, number: u32) -> usize
     put_line(buffer, at, b'e', &row, 0, 2)
 }
 
-// "then `a` transaction, dependence, place, count and that many numbers for each answer": the one whose 16 words start at 16 * i in the
-// room.
+// The fields of the answer whose words start at b: transaction and dependence, both attempts ("both after the dependence", 02, L2), place, count and
+// at most eight numbers.
+pub(crate) fn put_told(buffer: &mut [u8], at: usize, room: &[u32], b: usize) -> usize
+    requires { ⌜ (at < 4294967298) × (b < 68719476736) ⌝ }
+    ensures { λ r. ⌜ r ≡ at + length (toldFrom (now (room .entry)) b) ⌝ }
+    ensures { λ r. ⌜ now (buffer .exit) ≡ sets (now (buffer .entry)) at (toldFrom (now (room .entry)) b) ⌝ }
+{
+    let count = operations::number_at(room, b + 3);
+    let p = put_fields(buffer, at, room, b, 2);
+    let q = put_fields(buffer, p, room, b + 12, 2);
+    if count < 8 {
+        return put_fields(buffer, q, room, b + 2, 2 + count as usize);
+    }
+    put_fields(buffer, q, room, b + 2, 10)
+}
+
+// "then `a` transaction, dependence, place, count and that many numbers for each answer": the one whose 16 words start at 16 * i in the room, with its
+// attempts.
 pub fn put_a(buffer: &mut [u8], at: u32, room: &[u32], i: u32) -> usize
     ensures { λ r. ⌜ r ≡ at + length (lineA (now (room .entry)) i) ⌝ }
     ensures { λ r. ⌜ now (buffer .exit) ≡ sets (now (buffer .entry)) at (lineA (now (room .entry)) i) ⌝ }
 {
-    let b = model::ANSWER_WORDS * (i as usize);
-    let count = operations::number_at(room, b + 3);
-    if count < 8 {
-        return put_line(buffer, at, b'a', room, b, 4 + count as usize);
-    }
-    put_line(buffer, at, b'a', room, b, 12)
+    let start = at as usize;
+    put_byte(buffer, start, b'a');
+    let p = put_told(buffer, start + 1, room, model::ANSWER_WORDS * (i as usize));
+    put_byte(buffer, p, b'\n');
+    p + 1
 }
 
 // "and at the end `c` cell and content for each cell"

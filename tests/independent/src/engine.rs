@@ -28,20 +28,36 @@ pub struct Outcome {
     pub numbers: Vec<u32>,
 }
 
+/// The transaction that must commit for an answer to be right, and the attempt in which it must; 0 and 0 for none.
+#[derive(Clone, Copy, Debug, Default, PartialEq, Eq)]
+pub struct Dependence {
+    pub number: u32,
+    pub attempt: u32,
+}
+
 #[derive(Clone, Debug, PartialEq, Eq)]
 pub struct Answer {
     pub number: u32,
-    pub dependence: u32,
+    pub attempt: u32,
+    pub dependence: Dependence,
     pub outcome: Outcome,
 }
 
 impl Answer {
+    /// The attempts stand right after the eight numbers.
     pub fn words(&self) -> [u32; ANSWER_WORDS] {
-        let Outcome { place, numbers } = &self.outcome;
+        let Answer { number, attempt, dependence, outcome: Outcome { place, numbers } } = self;
         let mut words = [0; ANSWER_WORDS];
-        words[..4].copy_from_slice(&[self.number, self.dependence, *place, numbers.len() as u32]);
+        words[..4].copy_from_slice(&[*number, dependence.number, *place, numbers.len() as u32]);
         words[4..4 + numbers.len()].copy_from_slice(numbers);
+        words[12..14].copy_from_slice(&[*attempt, dependence.attempt]);
         words
+    }
+
+    /// What the two schemes have in common of a single's answer.
+    pub fn attempts_aside(mut self) -> Answer {
+        (self.attempt, self.dependence.attempt) = (0, 0);
+        self
     }
 }
 
@@ -82,9 +98,19 @@ impl Scheme {
     }
 }
 
+/// One that waits.
+#[derive(Clone, Copy, Debug, PartialEq, Eq)]
+pub struct Waiting {
+    pub first: Fragment,
+    /// Of its next run.
+    pub attempt: u32,
+}
+
 #[derive(Clone, Debug, PartialEq, Eq)]
 pub struct Uncommitted {
     pub first: Fragment,
+    /// 1, and one more for each undoing; later fragments of the front belong to the same attempt.
+    pub attempt: u32,
     pub fragments_run: u32,
     pub state: State,
     /// Nothing where the answer was sent.
@@ -94,7 +120,7 @@ pub struct Uncommitted {
 }
 
 impl Uncommitted {
-    /// The clauses of refusal 1 about one uncommitted transaction, but for its number and its fragment.
+    /// The clauses of refusal 1 about one uncommitted transaction, but for its number, its fragment and its attempt.
     fn sound(&self, is_front: bool, is_tail: bool, cells: u32) -> bool {
         let most_fragments = if is_front { MOST_FRAGMENTS } else { 1 };
         let reply = match &self.held {
@@ -108,6 +134,11 @@ impl Uncommitted {
             && self.undo.len() <= PLACES * self.fragments_run as usize
             && self.undo.iter().all(|&(cell, _)| cell < cells)
     }
+
+    /// As an answer that depends on it names it.
+    fn named(&self) -> Dependence {
+        Dependence { number: self.first.number, attempt: self.attempt }
+    }
 }
 
 #[derive(Clone, Debug, PartialEq, Eq)]
@@ -116,12 +147,24 @@ pub struct Record {
     pub largest: u32,
     /// The first one is the front.
     pub uncommitted: VecDeque<Uncommitted>,
-    pub waiting: VecDeque<Fragment>,
+    pub waiting: VecDeque<Waiting>,
 }
 
 impl Record {
     pub fn live(&self) -> impl Iterator<Item = &Fragment> {
-        self.uncommitted.iter().map(|one| &one.first).chain(&self.waiting)
+        self.uncommitted.iter().map(|one| &one.first).chain(self.waiting.iter().map(|one| &one.first))
+    }
+
+    /// Of the live ones, in the same order.
+    pub fn attempts(&self) -> impl Iterator<Item = u32> + '_ {
+        self.uncommitted.iter().map(|one| one.attempt).chain(self.waiting.iter().map(|one| one.attempt))
+    }
+
+    fn attempts_mut(&mut self) -> impl Iterator<Item = &mut u32> {
+        self.uncommitted
+            .iter_mut()
+            .map(|one| &mut one.attempt)
+            .chain(self.waiting.iter_mut().map(|one| &mut one.attempt))
     }
 
     /// The list of refusal 1 and no stricter.
@@ -138,6 +181,8 @@ impl Record {
                     && stored.well_formed()
                     && stored.inside(self.cells)
             })
+            // Each undoing has taken one of those ahead away, and there were 63 at most.
+            && self.attempts().zip((1..=MOST_LIVE as u32).rev()).all(|(attempt, most)| (1..=most).contains(&attempt))
             && self.uncommitted.iter().enumerate().all(|(at, one)| one.sound(at == 0, at == tail, self.cells))
     }
 }
@@ -194,12 +239,47 @@ pub enum Fault {
     /// Releases after a fragment too. Where a run is from a fresh start nothing is held then that could be released:
     /// the odd records of the soak show it.
     ReleaseAfterAFragment,
+    /// An abort raises no attempt.
+    AttemptNotRaised,
+    /// Has 2 after each abort, however many there were.
+    AttemptTwoAfterAnAbort,
+    /// Raises those that were waiting too.
+    AttemptOfTheWaitingRaised,
+    /// Raises the first that returns alone.
+    AttemptOfTheFirstAlone,
+    /// Raises no single, as a coordinator sees none.
+    AttemptOfMultisAlone,
+    /// Raises none whose answer was held, as nobody has seen it.
+    AttemptOfTheSentAlone,
+    /// A later fragment of the front raises its attempt.
+    AttemptRaisedByAFragment,
+    /// A commit raises those that were uncommitted behind the front.
+    AttemptRaisedByACommit,
+    /// A commit moves the live ones up and leaves the attempts where they are.
+    AttemptsNotMovedUp,
+    /// Counts the runs that were: a new one waits with 0, and its run makes it 1. Its answers are right, its record is
+    /// not: the soak shows it.
+    AttemptCountsRuns,
+    /// Sends what was held without its attempt.
+    HeldWithoutAttempt,
+    /// Gives the two attempts of an answer in the other order.
+    AttemptsSwapped,
+    /// With a dependence: gives the attempt of the answered one for the one that it depends on.
+    DependenceInItsOwnAttempt,
+    /// Gives the front's.
+    DependenceInTheFrontsAttempt,
+    /// Gives none.
+    DependenceWithoutAttempt,
+    /// With no dependence: gives its own attempt where 0 stands for none.
+    AttemptWithoutDependence,
+    /// Gives what it releases its own attempt for that of the dependence; what the drain runs is right.
+    ReleaseInItsOwnAttempt,
     /// No trace lends less than the room: the depot program's calls show it.
     LeastRoom1023,
 }
 
 impl Fault {
-    pub const ALL: [Fault; 35] = [
+    pub const ALL: [Fault; 52] = [
         Fault::UndoOldestFirst,
         Fault::SpeculateBehindUnfinishedFront,
         Fault::RequeueReversed,
@@ -234,13 +314,30 @@ impl Fault {
         Fault::ReleaseStaysHeld,
         Fault::ReleaseAfterTheDrain,
         Fault::ReleaseAfterAFragment,
+        Fault::AttemptNotRaised,
+        Fault::AttemptTwoAfterAnAbort,
+        Fault::AttemptOfTheWaitingRaised,
+        Fault::AttemptOfTheFirstAlone,
+        Fault::AttemptOfMultisAlone,
+        Fault::AttemptOfTheSentAlone,
+        Fault::AttemptRaisedByAFragment,
+        Fault::AttemptRaisedByACommit,
+        Fault::AttemptsNotMovedUp,
+        Fault::AttemptCountsRuns,
+        Fault::HeldWithoutAttempt,
+        Fault::AttemptsSwapped,
+        Fault::DependenceInItsOwnAttempt,
+        Fault::DependenceInTheFrontsAttempt,
+        Fault::DependenceWithoutAttempt,
+        Fault::AttemptWithoutDependence,
+        Fault::ReleaseInItsOwnAttempt,
         Fault::LeastRoom1023,
     ];
 
     /// Whether runs by this scheme alone can show it. What needs a speculated one is no error by blocking.
     pub fn shows_by(self, scheme: Scheme) -> bool {
         match self {
-            Fault::None | Fault::ReleaseAfterAFragment | Fault::LeastRoom1023 => false,
+            Fault::None | Fault::ReleaseAfterAFragment | Fault::AttemptCountsRuns | Fault::LeastRoom1023 => false,
             Fault::SpeculateBehindUnfinishedFront
             | Fault::RequeueReversed
             | Fault::SingleAnsweredEarly
@@ -253,7 +350,19 @@ impl Fault {
             | Fault::ReleaseAsksThoseBehind
             | Fault::ReleaseAsksTheFrontAlone
             | Fault::ReleaseStaysHeld
-            | Fault::ReleaseAfterTheDrain => scheme == Scheme::Speculation,
+            | Fault::ReleaseAfterTheDrain
+            | Fault::AttemptNotRaised
+            | Fault::AttemptTwoAfterAnAbort
+            | Fault::AttemptOfTheFirstAlone
+            | Fault::AttemptOfMultisAlone
+            | Fault::AttemptOfTheSentAlone
+            | Fault::AttemptRaisedByACommit
+            | Fault::AttemptsNotMovedUp
+            | Fault::HeldWithoutAttempt
+            | Fault::DependenceInItsOwnAttempt
+            | Fault::DependenceInTheFrontsAttempt
+            | Fault::DependenceWithoutAttempt
+            | Fault::ReleaseInItsOwnAttempt => scheme == Scheme::Speculation,
             Fault::BlockingNeverBlocks
             | Fault::BlockingSpeculatesOnce
             | Fault::BlockingWhenIdle
@@ -273,11 +382,15 @@ impl Fault {
             | Fault::FoundAfterwards
             | Fault::FoundAfterUndo
             | Fault::FoundTheAmount
-            | Fault::FoundAmongOthers => true,
+            | Fault::FoundAmongOthers
+            | Fault::AttemptOfTheWaitingRaised
+            | Fault::AttemptRaisedByAFragment
+            | Fault::AttemptsSwapped
+            | Fault::AttemptWithoutDependence => true,
         }
     }
 
-    /// Whether the two schemes differ under it in more than the answers of multis.
+    /// Whether the two schemes differ under it in more than the answers of multis and the attempts.
     pub fn parts_schemes(self) -> bool {
         matches!(
             self,
@@ -343,10 +456,22 @@ impl Engine {
                 self.release(&mut answers);
             }
         }
-        if self.fault == Fault::DependenceBeforeNumber {
-            answers.iter_mut().for_each(|answer| swap(&mut answer.number, &mut answer.dependence));
-        }
+        answers.iter_mut().for_each(|answer| self.misname(answer));
         (refused, answers)
+    }
+
+    /// Does nothing. A wrong engine names other transactions or attempts.
+    fn misname(&self, Answer { number, attempt, dependence, .. }: &mut Answer) {
+        let front = self.record.uncommitted.front().map_or(0, |front| front.attempt);
+        match (self.fault, dependence.number != 0) {
+            (Fault::DependenceBeforeNumber, _) => swap(number, &mut dependence.number),
+            (Fault::AttemptsSwapped, _) => swap(attempt, &mut dependence.attempt),
+            (Fault::DependenceInItsOwnAttempt, true) => dependence.attempt = *attempt,
+            (Fault::DependenceInTheFrontsAttempt, true) => dependence.attempt = front,
+            (Fault::DependenceWithoutAttempt, true) => dependence.attempt = 0,
+            (Fault::AttemptWithoutDependence, false) => dependence.attempt = *attempt,
+            _ => {}
+        }
     }
 
     /// Never: the refusals are the same by both schemes. A wrong engine blocks at the door too.
@@ -435,29 +560,42 @@ impl Engine {
         match self.record.uncommitted.front_mut().filter(|front| front.first.number == fragment.number) {
             Some(front) => {
                 let outcome = run(front, &fragment, cells, fault);
-                answers.push(Answer { number: fragment.number, dependence: 0, outcome });
+                front.attempt += u32::from(fault == Fault::AttemptRaisedByAFragment);
+                let (number, attempt) = (fragment.number, front.attempt);
+                answers.push(Answer { number, attempt, dependence: Dependence::default(), outcome });
             }
             None => {
+                let attempt = u32::from(fault != Fault::AttemptCountsRuns);
                 self.record.largest = fragment.number;
-                self.record.waiting.push_back(fragment);
+                self.record.waiting.push_back(Waiting { first: fragment, attempt });
             }
         }
     }
 
     /// The front settles, then the singles behind it; the next multi is the new front.
     fn settle(&mut self, answers: &mut Vec<Answer>) {
+        let fault = self.fault;
+        let attempts: Vec<u32> = match fault {
+            Fault::AttemptsNotMovedUp => self.record.attempts().collect(),
+            _ => vec![],
+        };
         let uncommitted = &mut self.record.uncommitted;
         uncommitted.pop_front();
         while let Some(next) = uncommitted.front_mut() {
             let is_front = next.first.is_multi();
             if let Some(outcome) = next.held.take() {
-                answers.push(Answer { number: next.first.number, dependence: 0, outcome });
+                let (number, attempt) = (next.first.number, was_held(next.attempt, fault));
+                answers.push(Answer { number, attempt, dependence: Dependence::default(), outcome });
             }
             if is_front {
                 break;
             }
             uncommitted.pop_front();
         }
+        if fault == Fault::AttemptRaisedByACommit {
+            uncommitted.iter_mut().for_each(|one| one.attempt += 1);
+        }
+        self.record.attempts_mut().zip(attempts).for_each(|(attempt, stays)| *attempt = stays);
     }
 
     /// After each commit and no other event.
@@ -477,7 +615,8 @@ impl Engine {
             let first = one.first;
             let Some(dependence) = self.released(at, &first) else { continue };
             let Some(outcome) = one.held.clone() else { continue };
-            answers.push(Answer { number: first.number, dependence, outcome });
+            let attempt = was_held(one.attempt, self.fault);
+            answers.push(Answer { number: first.number, attempt, dependence, outcome });
             if self.fault != Fault::ReleaseStaysHeld {
                 self.record.uncommitted[at].held = None;
             }
@@ -485,15 +624,19 @@ impl Engine {
     }
 
     /// The dependence with which the one at a place is released, or nothing.
-    fn released(&self, at: usize, first: &Fragment) -> Option<u32> {
-        let front = self.record.uncommitted[0].first;
-        let of_front = first.is_multi() && first.coordinator == front.coordinator;
+    fn released(&self, at: usize, first: &Fragment) -> Option<Dependence> {
+        let front = &self.record.uncommitted[0];
+        let of_front = first.is_multi() && first.coordinator == front.first.coordinator;
+        let right = self.dependence(at, first);
         match self.fault {
             Fault::ReleaseAsksTheFrontAlone => of_front.then(|| self.nearest(at)).flatten(),
             Fault::ReleaseAsksThoseBehind if !self.one_coordinator(self.record.uncommitted.len(), first) => None,
-            Fault::ReleaseWithoutDependence => self.dependence(at, first).map(|_| 0),
-            Fault::ReleaseDependsOnTheFront => self.dependence(at, first).map(|_| front.number),
-            _ => self.dependence(at, first),
+            Fault::ReleaseWithoutDependence => right.map(|_| Dependence::default()),
+            Fault::ReleaseDependsOnTheFront => right.map(|_| front.named()),
+            Fault::ReleaseInItsOwnAttempt => {
+                right.map(|named| Dependence { attempt: self.record.uncommitted[at].attempt, ..named })
+            }
+            _ => right,
         }
     }
 
@@ -505,25 +648,32 @@ impl Engine {
         self.requeue();
     }
 
-    /// All uncommitted ones return to the head of the waiting queue in their old order.
+    /// All uncommitted ones return to the head of the waiting queue in their old order, each for one more attempt.
     fn requeue(&mut self) {
+        let fault = self.fault;
         let Record { uncommitted, waiting, .. } = &mut self.record;
-        let reversed = self.fault == Fault::RequeueReversed;
+        if fault == Fault::AttemptOfTheWaitingRaised {
+            waiting.iter_mut().for_each(|one| one.attempt += 1);
+        }
+        let reversed = fault == Fault::RequeueReversed;
         while let Some(one) = if reversed { uncommitted.pop_front() } else { uncommitted.pop_back() } {
-            waiting.push_front(one.first);
+            let attempt = next_attempt(&one, uncommitted.is_empty(), fault);
+            waiting.push_front(Waiting { first: one.first, attempt });
         }
     }
 
     fn drain(&mut self, scheme: Scheme, cells: &mut [u32], answers: &mut Vec<Answer>) {
         while self.may_run_next(scheme) {
-            let Some(first) = self.record.waiting.pop_front() else { break };
+            let Some(Waiting { first, attempt }) = self.record.waiting.pop_front() else { break };
+            let attempt = attempt + u32::from(self.fault == Fault::AttemptCountsRuns);
             let alone = self.record.uncommitted.is_empty();
             let ahead = self.record.uncommitted.len();
-            let dependence = if alone { Some(0) } else { self.dependence(ahead, &first) };
-            let mut one = Uncommitted { first, fragments_run: 0, state: State::Running, held: None, undo: Vec::new() };
+            let dependence = if alone { Some(Dependence::default()) } else { self.dependence(ahead, &first) };
+            let mut one =
+                Uncommitted { first, attempt, fragments_run: 0, state: State::Running, held: None, undo: Vec::new() };
             let outcome = run(&mut one, &first, cells, self.fault);
             if let Some(dependence) = dependence {
-                answers.push(Answer { number: first.number, dependence, outcome: outcome.clone() });
+                answers.push(Answer { number: first.number, attempt, dependence, outcome: outcome.clone() });
             }
             let repeats = self.fault == Fault::AnswerRepeated && first.is_multi() && !alone;
             if dependence.is_none() || repeats {
@@ -559,9 +709,9 @@ impl Engine {
     }
 
     /// What the answer of one with so many uncommitted ones ahead of it depends on, or nothing if it is held.
-    fn dependence(&self, ahead: usize, one: &Fragment) -> Option<u32> {
+    fn dependence(&self, ahead: usize, one: &Fragment) -> Option<Dependence> {
         if !one.is_multi() {
-            return (self.fault == Fault::SingleAnsweredEarly).then_some(0);
+            return (self.fault == Fault::SingleAnsweredEarly).then(Dependence::default);
         }
         self.nearest(ahead).filter(|_| self.one_coordinator(ahead, one))
     }
@@ -574,9 +724,9 @@ impl Engine {
     }
 
     /// The last multi among the first so many uncommitted ones.
-    fn nearest(&self, many: usize) -> Option<u32> {
-        let ahead = self.record.uncommitted.iter().take(many).map(|other| &other.first);
-        ahead.rev().find(|first| first.is_multi()).map(|first| first.number)
+    fn nearest(&self, many: usize) -> Option<Dependence> {
+        let ahead = self.record.uncommitted.iter().take(many);
+        ahead.rev().find(|other| other.first.is_multi()).map(Uncommitted::named)
     }
 
     fn depth(&self) -> usize {
@@ -589,6 +739,27 @@ impl Engine {
 
     fn most_live(&self) -> usize {
         MOST_LIVE + usize::from(self.fault == Fault::Live65)
+    }
+}
+
+/// What the attempt of an undone one becomes: one more. `first` is whether it is the first that returns.
+fn next_attempt(one: &Uncommitted, first: bool, fault: Fault) -> u32 {
+    match fault {
+        // Its next run will count itself.
+        Fault::AttemptNotRaised | Fault::AttemptCountsRuns => one.attempt,
+        Fault::AttemptTwoAfterAnAbort => 2,
+        Fault::AttemptOfTheFirstAlone if !first => one.attempt,
+        Fault::AttemptOfMultisAlone if !one.first.is_multi() => one.attempt,
+        Fault::AttemptOfTheSentAlone if one.held.is_some() => one.attempt,
+        _ => one.attempt + 1,
+    }
+}
+
+/// The attempt that is sent with an answer which was held: its transaction's.
+fn was_held(attempt: u32, fault: Fault) -> u32 {
+    match fault {
+        Fault::HeldWithoutAttempt => 0,
+        _ => attempt,
     }
 }
 

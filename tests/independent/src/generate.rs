@@ -1,6 +1,6 @@
 //! Seeded traces that reach every rule, and the counters that show that they do.
 
-use crate::engine::{Engine, Fault, Scheme, State, DEPTH, MOST_FRAGMENTS, MOST_LIVE, ROOM};
+use crate::engine::{Answer, Engine, Fault, Scheme, State, DEPTH, MOST_FRAGMENTS, MOST_LIVE, ROOM};
 use crate::event::*;
 use crate::trace::{self, Step, MOST_EVENTS};
 use std::fmt;
@@ -434,6 +434,12 @@ pub struct Reach {
     pub held: u64,
     pub dependent: u64,
     pub failed: u64,
+    /// Answers of an attempt after the first, those that depend on one, and those that depend on another attempt than
+    /// their own.
+    pub again: u64,
+    pub dependent_again: u64,
+    pub attempts_apart: u64,
+    pub most_attempt: u32,
     /// Commits by how many held answers they released behind the front: one, two, more.
     pub released: [u64; 3],
     /// Accepted aborts by how many they put back.
@@ -474,13 +480,18 @@ impl Reach {
         let held = after.uncommitted.iter().filter(|one| one.held.is_some() && ran_now(one.first.number));
         self.answers += answers.len() as u64;
         self.held += held.count() as u64;
-        self.dependent += answers.iter().filter(|answer| answer.dependence != 0).count() as u64;
-        self.failed += answers.iter().filter(|answer| answer.outcome.place != 0).count() as u64;
+        let count_of = |which: fn(&&Answer) -> bool| answers.iter().filter(which).count() as u64;
+        self.dependent += count_of(|answer| answer.dependence.number != 0);
+        self.failed += count_of(|answer| answer.outcome.place != 0);
+        self.again += count_of(|answer| answer.attempt > 1);
+        self.dependent_again += count_of(|answer| answer.dependence.attempt > 1);
+        self.attempts_apart += count_of(|answer| ![0, answer.attempt].contains(&answer.dependence.attempt));
+        self.most_attempt = answers.iter().map(|answer| answer.attempt).fold(self.most_attempt, u32::max);
         if aborted {
             self.requeued[before.uncommitted.len() - 1] += 1;
         }
         // Only a released one is answered with a dependence although it had run before.
-        let released = answers.iter().filter(|answer| answer.dependence != 0 && !ran_now(answer.number)).count();
+        let released = answers.iter().filter(|answer| answer.dependence.number != 0 && !ran_now(answer.number)).count();
         if let Some(at) = released.min(3).checked_sub(1) {
             self.released[at] += 1;
         }
@@ -506,6 +517,9 @@ impl Reach {
                 ("a commit that releases one answer", self.released[0]),
                 ("a commit that releases two", self.released[1]),
                 ("a commit that releases more", self.released[2]),
+                ("an answer of attempt 2 or more", self.again),
+                ("a dependence on attempt 2 or more", self.dependent_again),
+                ("a dependence on another attempt than its own", self.attempts_apart),
             ],
             Scheme::Blocking => vec![("a drain that blocking stops", self.stopped_by_blocking)],
         };
@@ -525,8 +539,10 @@ impl fmt::Display for Reach {
         }
         match scheme {
             Scheme::Speculation => {
-                let [one, two, more] = self.released;
-                write!(f, ", depth 16 {depth_16}, 64 live {live_64}, released 1:{one} 2:{two} more:{more}")
+                let Reach { released: [one, two, more], again, dependent_again, most_attempt, .. } = self;
+                write!(f, ", depth 16 {depth_16}, 64 live {live_64}, released 1:{one} 2:{two} more:{more}")?;
+                write!(f, ", answers of attempt 2 or more {again}, at most {most_attempt}")?;
+                write!(f, ", dependences on one {dependent_again}")
             }
             Scheme::Blocking => write!(f, ", drains that blocking stopped {stopped_by_blocking}, 64 live {live_64}"),
         }

@@ -1,20 +1,22 @@
 //! The record as words, so that damaged ones can be handed to a call.
 //!
 //! counts: cells, largest, uncommitted, waiting
-//! live: 64 rows of 28: number, flags, coordinator, operation count, eight times code, cell, amount;
+//! live: 64 rows of 29: number, flags, coordinator, operation count, eight times code, cell, amount; then the attempt;
 //!       the uncommitted ones, then the waiting ones
 //! runs: 16 rows of 16, one beside each uncommitted one: fragments run, state (0 running, 1 finished, 2 failed),
 //!       reply (0 sent, 1 held), number of its own undo entries, held place, held count, eight held numbers, two zeros
 //! undo: 184 pairs of cell and old number, in queue order, oldest first
 
-use crate::engine::{Engine, Outcome, Record, Scheme, State, Uncommitted, ANSWER_WORDS, DEPTH, MOST_LIVE};
+use crate::engine::{Engine, Outcome, Record, Scheme, State, Uncommitted, Waiting, ANSWER_WORDS, DEPTH, MOST_LIVE};
 use crate::event::{Event, Fragment, EVENT_WORDS, FRAGMENT_WORDS, PLACES};
 use std::collections::VecDeque;
 
+/// The attempt is the last of them.
+pub const LIVE_WORDS: usize = FRAGMENT_WORDS + 1;
 pub const RUN_WORDS: usize = 16;
 pub const UNDO_ENTRIES: usize = 184;
 pub const LIVE: usize = 4;
-pub const RUNS: usize = LIVE + MOST_LIVE * FRAGMENT_WORDS;
+pub const RUNS: usize = LIVE + MOST_LIVE * LIVE_WORDS;
 pub const UNDO: usize = RUNS + DEPTH * RUN_WORDS;
 pub const WORDS: usize = UNDO + 2 * UNDO_ENTRIES;
 
@@ -81,8 +83,10 @@ fn lay_out_in(record: &Record, words: &mut Words) {
     words.fill(0);
     let counts = [record.uncommitted.len() as u32, record.waiting.len() as u32];
     words[..4].copy_from_slice(&[record.cells, record.largest, counts[0], counts[1]]);
-    for (row, stored) in words[LIVE..RUNS].chunks_exact_mut(FRAGMENT_WORDS).zip(record.live()) {
-        row.copy_from_slice(&stored.words());
+    let live = record.live().zip(record.attempts());
+    for (row, (stored, attempt)) in words[LIVE..RUNS].chunks_exact_mut(LIVE_WORDS).zip(live) {
+        row[..FRAGMENT_WORDS].copy_from_slice(&stored.words());
+        row[FRAGMENT_WORDS] = attempt;
     }
     for (row, one) in words[RUNS..UNDO].chunks_exact_mut(RUN_WORDS).zip(&record.uncommitted) {
         let state = match one.state {
@@ -108,11 +112,12 @@ pub fn read(words: &Words) -> Option<Record> {
     if uncommitted > DEPTH || waiting > MOST_LIVE - uncommitted {
         return None;
     }
-    let mut live = words[LIVE..RUNS].chunks_exact(FRAGMENT_WORDS).map(Fragment::read);
+    let rows = words[LIVE..RUNS].chunks_exact(LIVE_WORDS);
+    let mut live = rows.map(|row| Waiting { first: Fragment::read(row), attempt: row[FRAGMENT_WORDS] });
     let mut runs = words[RUNS..UNDO].chunks_exact(RUN_WORDS);
     let mut entries = &words[UNDO..];
     let mut read_one = || {
-        let (first, run) = (live.next()?, runs.next()?);
+        let (Waiting { first, attempt }, run) = (live.next()?, runs.next()?);
         let state = match run[1] {
             0 => State::Running,
             1 => State::Finished,
@@ -130,7 +135,7 @@ pub fn read(words: &Words) -> Option<Record> {
         let (own, others) = entries.split_at(2 * run[3] as usize);
         entries = others;
         let undo = own.chunks_exact(2).map(|pair| (pair[0], pair[1])).collect();
-        Some(Uncommitted { first, fragments_run: run[0], state, held, undo })
+        Some(Uncommitted { first, attempt, fragments_run: run[0], state, held, undo })
     };
     let mut all = VecDeque::with_capacity(uncommitted + 1);
     for _ in 0..uncommitted {

@@ -1,5 +1,5 @@
-//! A second engine of one partition, written from document 01 and its readings alone and sharing nothing with the
-//! first, so that a difference between the two points at an error or at a place where the rules can be read two ways.
+//! A second engine of one partition, written from documents 01 and 02 and their readings alone and sharing nothing with
+//! the first, so that a difference between the two points at an error or at a place where the rules can be read two ways.
 //!
 //! * `event`: events, fragments, operations; what refusals 4 and 5 ask of them
 //! * `engine`: the record, the steps by either scheme, the refusals; `Fault` makes it commit a known error on purpose
@@ -15,6 +15,6 @@ pub mod generate;
 pub mod layout;
 pub mod trace;
 
-pub use engine::{Answer, Engine, Fault, Outcome, Record, Scheme, State, Uncommitted};
+pub use engine::{Answer, Dependence, Engine, Fault, Outcome, Record, Scheme, State, Uncommitted, Waiting};
 pub use event::{Event, Fragment, Operation, TOP};
 pub use layout::{call, start};

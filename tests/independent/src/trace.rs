@@ -74,9 +74,10 @@ pub fn replay_with(scheme: Scheme, bytes: &[u8], fault: Fault) -> String {
     let cells = play(&trace, scheme, fault, |step| {
         position += 1;
         line(&mut lines, 'e', &[position, step.number]);
-        for Answer { number, dependence, outcome } in step.answers {
-            let head = [*number, *dependence, outcome.place, outcome.numbers.len() as u32];
-            line(&mut lines, 'a', &[&head, &outcome.numbers[..]].concat());
+        for Answer { number, attempt, dependence, outcome } in step.answers {
+            let attempts = [*attempt, dependence.attempt];
+            let told = [outcome.place, outcome.numbers.len() as u32];
+            line(&mut lines, 'a', &[&[*number, dependence.number], &attempts[..], &told, &outcome.numbers].concat());
         }
     });
     for (cell, content) in (0..).zip(cells) {

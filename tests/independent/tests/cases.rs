@@ -3,7 +3,7 @@
 use independent::event::*;
 use independent::generate::{self, Reach};
 use independent::trace::{self, replay, replay_with};
-use independent::{edges, examples, Engine, Fault, Operation, Scheme, State};
+use independent::{edges, examples, Dependence, Engine, Fault, Operation, Scheme, State};
 
 fn prints(cells: &[u32], events: &[Event]) -> String {
     replay(Scheme::Speculation, &trace::write(cells, events))
@@ -18,26 +18,30 @@ fn matters(cells: &[u32], events: &[Event]) -> Vec<String> {
 #[test]
 fn p1_to_p9() {
     let depot = [5, 10];
-    let p1 = "e 1 0\na 1 0 0 1 5\ne 2 0\ne 3 0\ne 4 0\na 1 0 0 1 17\ne 5 0\na 2 0 0 1 18\na 3 0 0 1 19\nc 0 19\n";
+    let p1 = "e 1 0\na 1 0 1 0 0 1 5\ne 2 0\ne 3 0\ne 4 0\na 1 0 1 0 0 1 17\ne 5 0\na 2 0 1 0 0 1 18\na 3 0 1 0 0 1 19\nc 0 19\n";
     assert_eq!(prints(&[5], &examples::p1()), p1);
 
     let mut p2 = examples::p1();
     p2[4] = Event::abort(1);
-    assert_eq!(matters(&[5], &p2), ["a 1 0 0 1 5", "a 1 0 0 1 17", "a 2 0 0 1 6", "a 3 0 0 1 7", "c 0 7"]);
+    assert_eq!(
+        matters(&[5], &p2),
+        ["a 1 0 1 0 0 1 5", "a 1 0 1 0 0 1 17", "a 2 0 2 0 0 1 6", "a 3 0 2 0 0 1 7", "c 0 7"]
+    );
 
     let p3 = examples::p3();
-    assert_eq!(matters(&depot, &p3[..1]), ["a 1 0 0 2 9 8", "c 0 5", "c 1 8"]);
-    assert_eq!(matters(&depot, &p3), ["a 1 0 0 2 9 8", "c 0 5", "c 1 10"]);
+    assert_eq!(matters(&depot, &p3[..1]), ["a 1 0 1 0 0 2 9 8", "c 0 5", "c 1 8"]);
+    assert_eq!(matters(&depot, &p3), ["a 1 0 1 0 0 2 9 8", "c 0 5", "c 1 10"]);
 
-    assert_eq!(matters(&depot, &[Event::single(1, &[(TAKE, 1, 10)])]), ["a 1 0 0 1 0", "c 0 5", "c 1 0"]);
-    assert_eq!(matters(&depot, &[Event::single(1, &[(TAKE, 1, 11)])]), ["a 1 0 1 1 10", "c 0 5", "c 1 10"]);
+    assert_eq!(matters(&depot, &[Event::single(1, &[(TAKE, 1, 10)])]), ["a 1 0 1 0 0 1 0", "c 0 5", "c 1 0"]);
+    assert_eq!(matters(&depot, &[Event::single(1, &[(TAKE, 1, 11)])]), ["a 1 0 1 0 1 1 10", "c 0 5", "c 1 10"]);
 
     let p6 = [Event::single(1, &[(ADD, 0, 0)]), Event::single(2, &[(ADD, 0, 1)])];
-    assert_eq!(matters(&[TOP], &p6), ["a 1 0 0 1 4294967295", "a 2 0 1 1 4294967295", "c 0 4294967295"]);
+    assert_eq!(matters(&[TOP], &p6), ["a 1 0 1 0 0 1 4294967295", "a 2 0 1 0 1 1 4294967295", "c 0 4294967295"]);
 
-    assert_eq!(matters(&depot, &examples::p7()), ["a 1 0 0 1 17", "a 3 1 0 1 19", "c 0 19", "c 1 10"]);
+    assert_eq!(matters(&depot, &examples::p7()), ["a 1 0 1 0 0 1 17", "a 3 1 1 1 0 1 19", "c 0 19", "c 1 10"]);
 
-    let p8 = ["a 1 0 0 1 17", "a 3 1 0 1 19", "e 5 7", "a 2 0 0 1 18", "a 4 0 0 1 19", "c 0 19", "c 1 10"];
+    let p8 =
+        ["a 1 0 1 0 0 1 17", "a 3 1 1 1 0 1 19", "e 5 7", "a 2 0 1 0 0 1 18", "a 4 0 1 0 0 1 19", "c 0 19", "c 1 10"];
     assert_eq!(matters(&depot, &examples::p8()), p8);
 
     let p9 = [
@@ -46,7 +50,7 @@ fn p1_to_p9() {
         Event::open(1, 1, &[(SET, 0, 1), (TAKE, 1, 11)]),
         Event::commit(1),
     ];
-    assert_eq!(matters(&depot, &p9), ["a 1 0 0 1 5", "e 2 13", "a 1 0 2 1 10", "e 4 14", "c 0 5", "c 1 10"]);
+    assert_eq!(matters(&depot, &p9), ["a 1 0 1 0 0 1 5", "e 2 13", "a 1 0 1 0 2 1 10", "e 4 14", "c 0 5", "c 1 10"]);
 }
 
 #[test]
@@ -74,10 +78,10 @@ fn examples_show_what_they_are_for() {
     }
     let named = |name| examples::all().into_iter().find(|example| example.name == name).expect(name);
     let output = |name| replay(Scheme::Speculation, &named(name).bytes());
-    assert!(output("depth16").contains("a 16 1 0 1 115\ne 17 0\ne 18 7\ne 19 0\n"));
-    assert!(output("live64").contains("e 65 10\n") && output("live64").contains("e 70 0\na 65 0 0 1 63\n"));
-    assert!(output("ninth-fragment").contains("e 8 0\na 1 0 0 1 2\ne 9 11\n"));
-    assert!(output("shelf40").contains("e 12 0\na 3 0 0 1 3\na 4 0 0 2 3 1\na 5 0 1 1 0\n"));
+    assert!(output("depth16").contains("a 16 1 1 1 0 1 115\ne 17 0\ne 18 7\ne 19 0\n"));
+    assert!(output("live64").contains("e 65 10\n") && output("live64").contains("e 70 0\na 65 0 1 0 0 1 63\n"));
+    assert!(output("ninth-fragment").contains("e 8 0\na 1 0 1 0 0 1 2\ne 9 11\n"));
+    assert!(output("shelf40").contains("e 12 0\na 3 0 2 0 0 1 3\na 4 0 2 0 0 2 3 1\na 5 0 2 0 1 1 0\n"));
 }
 
 /// Every form that 4 refuses, each spoiled by one thing alone.
@@ -220,7 +224,8 @@ fn failing() {
         Event::abort(1),
         Event::commit(3),
     ];
-    let expected = ["a 1 0 0 1 1", "a 1 0 3 1 2", "e 5 8", "a 2 0 2 1 5", "a 3 0 0 1 6", "c 0 6", "c 1 10"];
+    let expected =
+        ["a 1 0 1 0 0 1 1", "a 1 0 1 0 3 1 2", "e 5 8", "a 2 0 2 0 2 1 5", "a 3 0 2 0 0 1 6", "c 0 6", "c 1 10"];
     assert_eq!(matters(&[5, 10], &events), expected);
 }
 
@@ -230,16 +235,16 @@ fn what_was_found() {
     // Each code that may fail, on a cell of 10.
     for (code, amount) in [(ADD, TOP - 9), (ADD, TOP), (TAKE, 11), (NEED, TOP), (MATCH, 9), (MATCH, 11)] {
         let alone = [Event::single(1, &[(code, 1, amount)])];
-        assert_eq!(matters(&[5, 10], &alone), ["a 1 0 1 1 10", "c 0 5", "c 1 10"], "code {code}");
+        assert_eq!(matters(&[5, 10], &alone), ["a 1 0 1 0 1 1 10", "c 0 5", "c 1 10"], "code {code}");
     }
     // Its own transaction's changes are in it: of the same fragment, and of earlier ones.
     let same = [Event::single(1, &[(TAKE, 1, 4), (TAKE, 1, 7)])];
-    assert_eq!(matters(&[5, 10], &same), ["a 1 0 2 1 6", "c 0 5", "c 1 10"]);
+    assert_eq!(matters(&[5, 10], &same), ["a 1 0 1 0 2 1 6", "c 0 5", "c 1 10"]);
     let earlier = [Event::open(1, 1, &[(TAKE, 1, 4)]), Event::open(1, 1, &[(SET, 0, 0), (NEED, 1, 7)])];
-    assert_eq!(matters(&[5, 10], &earlier), ["a 1 0 0 1 6", "a 1 0 2 1 6", "c 0 5", "c 1 10"]);
+    assert_eq!(matters(&[5, 10], &earlier), ["a 1 0 1 0 0 1 6", "a 1 0 1 0 2 1 6", "c 0 5", "c 1 10"]);
     // A 0 that was found is told too.
     let nothing = [Event::single(1, &[(SET, 1, 0), (READ, 0, 0), (TAKE, 1, 1)])];
-    assert_eq!(matters(&[5, 10], &nothing), ["a 1 0 3 1 0", "c 0 5", "c 1 10"]);
+    assert_eq!(matters(&[5, 10], &nothing), ["a 1 0 1 0 3 1 0", "c 0 5", "c 1 10"]);
     // Behind a front: 2 is held with what it found, 3 is told what it found under 1, and an abort makes both anew.
     let mut behind = vec![
         Event::last(1, 1, &[(TAKE, 1, 8)]),
@@ -247,10 +252,10 @@ fn what_was_found() {
         Event::last(3, 1, &[(TAKE, 1, 11)]),
         Event::commit(1),
     ];
-    let committed = ["a 1 0 0 1 2", "a 3 1 1 1 2", "a 2 0 2 1 3", "c 0 5", "c 1 2"];
+    let committed = ["a 1 0 1 0 0 1 2", "a 3 1 1 1 1 1 2", "a 2 0 1 0 2 1 3", "c 0 5", "c 1 2"];
     assert_eq!(matters(&[5, 10], &behind), committed);
     behind[3] = Event::abort(1);
-    let aborted = ["a 1 0 0 1 2", "a 3 1 1 1 2", "a 2 0 0 2 11 7", "a 3 0 1 1 7", "c 0 5", "c 1 7"];
+    let aborted = ["a 1 0 1 0 0 1 2", "a 3 1 1 1 1 1 2", "a 2 0 2 0 0 2 11 7", "a 3 0 2 0 1 1 7", "c 0 5", "c 1 7"];
     assert_eq!(matters(&[5, 10], &behind), aborted);
 }
 
@@ -290,6 +295,7 @@ fn generated_traces_reach_everything() {
         reach
     });
     assert!(reaches[0].requeued.iter().all(|&count| count > 0) && reaches[0].stopped_by_depth > 0);
+    assert!(reaches[0].most_attempt > 8 && reaches[1].most_attempt == 1);
     for (scheme, fault) in Scheme::ALL.iter().flat_map(|&scheme| Fault::ALL.map(|fault| (scheme, fault))) {
         let shows = |seed| {
             let trace = generate::trace(seed);
@@ -297,6 +303,20 @@ fn generated_traces_reach_everything() {
         };
         assert_eq!((1..=64).any(shows), fault.shows_by(scheme), "{fault:?} by {scheme:?}");
     }
+}
+
+/// A comparison that met no second attempt is worth nothing: by these traces nothing is undone.
+#[test]
+fn missing_attempts_are_told() {
+    let mut reach = Reach::by(Scheme::Speculation);
+    examples::all().iter().filter(|example| example.name == "p1").for_each(|p1| reach.note_trace(&p1.bytes()));
+    let missing = reach.missing();
+    for name in ["an answer of", "a dependence on"] {
+        assert!(missing.contains(&format!("{name} attempt 2 or more")), "{missing:?}");
+    }
+    let page = edges::all().into_iter().find(|edges| edges.name == "attempts").expect("on the page");
+    reach.note_trace(&page.bytes());
+    assert!(!reach.missing().iter().any(|name| name.contains("attempt")), "{:?}", reach.missing());
 }
 
 /// Each clause of 4 must be met alone, in generated traces and on the page of edges: repairing that one thing makes the
@@ -359,7 +379,9 @@ fn facts_of_every_run() {
             };
             assert!(record.waiting.is_empty() || stopped);
             if scheme == Scheme::Blocking {
-                assert!(count <= 1 && step.answers.iter().all(|answer| answer.dependence == 0));
+                assert!(count <= 1 && step.answers.iter().all(|answer| answer.dependence.number == 0));
+                // Nothing that has run returns.
+                assert!(record.attempts().chain(step.answers.iter().map(|answer| answer.attempt)).all(|n| n == 1));
             }
             for (at, one) in record.uncommitted.iter().enumerate() {
                 let first = &one.first;
@@ -380,6 +402,14 @@ fn facts_of_every_run() {
                     Some(held) => assert!(held.place == 0 && held.numbers.len() == first.count as usize),
                     None => assert!(first.is_multi()),
                 }
+            }
+            // Each undoing took away one that was ahead. So a coordinator sees rising attempts, and never one above 64.
+            assert!(record.attempts().zip(0..).all(|(attempt, ahead)| attempt >= 1 && attempt + ahead <= 64));
+            for answer in step.answers {
+                let Dependence { number, attempt } = answer.dependence;
+                assert!((1..=64).contains(&answer.attempt));
+                // An undoing that reaches one reaches those ahead of it.
+                assert!(if number == 0 { attempt == 0 } else { attempt >= answer.attempt });
             }
             let numbers: Vec<u32> = step.answers.iter().map(|answer| answer.number).collect();
             assert!(numbers.windows(2).all(|pair| pair[0] < pair[1]) && numbers.len() <= 64);

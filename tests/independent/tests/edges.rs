@@ -27,7 +27,7 @@ fn the_files_are_those_of_their_sources() {
 #[test]
 fn what_was_worked_by_hand_is_what_this_engine_prints() {
     let all = edges::all();
-    assert_eq!(all.len(), 10);
+    assert_eq!(all.len(), 11);
     for (edges, scheme) in all.iter().flat_map(|edges| Scheme::ALL.map(|scheme| (edges, scheme))) {
         assert!((1..=256).contains(&edges.events.len()), "{}", edges.name);
         assert_eq!(replay(scheme, &edges.bytes()), edges.prints(scheme), "{} by {}", edges.name, scheme.word());
@@ -83,5 +83,32 @@ fn wrong_releases_are_noticed() {
     for fault in faults {
         assert!(notices(fault, Scheme::Speculation).contains(&"release".to_string()), "{fault:?}");
         assert!(notices(fault, Scheme::Blocking).is_empty(), "{fault:?}");
+    }
+}
+
+/// Attempts that are raised too seldom, too often or for others, and answers that name another one.
+#[test]
+fn wrong_attempts_are_noticed() {
+    let faults = [
+        Fault::AttemptNotRaised,
+        Fault::AttemptTwoAfterAnAbort,
+        Fault::AttemptOfTheWaitingRaised,
+        Fault::AttemptOfTheFirstAlone,
+        Fault::AttemptOfMultisAlone,
+        Fault::AttemptOfTheSentAlone,
+        Fault::AttemptRaisedByAFragment,
+        Fault::AttemptRaisedByACommit,
+        Fault::AttemptsNotMovedUp,
+        Fault::HeldWithoutAttempt,
+        Fault::AttemptsSwapped,
+        Fault::DependenceInItsOwnAttempt,
+        Fault::DependenceInTheFrontsAttempt,
+        Fault::DependenceWithoutAttempt,
+        Fault::AttemptWithoutDependence,
+        Fault::ReleaseInItsOwnAttempt,
+    ];
+    for fault in faults {
+        assert!(notices(fault, Scheme::Speculation).contains(&"attempts".to_string()), "{fault:?}");
+        assert_eq!(!notices(fault, Scheme::Blocking).is_empty(), fault.shows_by(Scheme::Blocking), "{fault:?}");
     }
 }

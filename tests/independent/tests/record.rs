@@ -2,7 +2,9 @@
 
 use independent::event::*;
 use independent::generate::{self, Random};
-use independent::layout::{call, call_in_place, lay_out, read, start, Words, LIVE, RUNS, RUN_WORDS, UNDO, WORDS};
+use independent::layout::{
+    call, call_in_place, lay_out, read, start, Words, LIVE, LIVE_WORDS, RUNS, RUN_WORDS, UNDO, WORDS,
+};
 use independent::{trace, Engine, Scheme};
 
 const CELLS: u32 = 0;
@@ -12,10 +14,12 @@ const WAITING: u32 = 3;
 const ROOM: usize = 1024;
 const UNTOUCHED: u32 = 0xdead_beef;
 
-/// A word of a live row: 0 number, 1 flags, 2 coordinator, 3 count, then code, cell, amount.
+/// A word of a live row: 0 number, 1 flags, 2 coordinator, 3 count, then code, cell, amount; 28 attempt.
 fn live(row: u32, field: u32) -> u32 {
-    LIVE as u32 + FRAGMENT_WORDS as u32 * row + field
+    LIVE as u32 + LIVE_WORDS as u32 * row + field
 }
+
+const ATTEMPT: u32 = 28;
 
 /// A word of a run row: 0 fragments run, 1 state, 2 reply, 3 own entries, 4 held place, 5 held count, 6.. numbers.
 fn run(row: u32, field: u32) -> u32 {
@@ -72,13 +76,16 @@ fn careful_call_by(scheme: Scheme, words: &Words, cells: &mut [u32], event: &Eve
 #[test]
 fn the_base_is_laid_out_as_written() {
     let (words, cells) = base();
-    assert_eq!(WORDS, 4 + 1792 + 256 + 368);
+    assert_eq!(WORDS, 4 + 1856 + 256 + 368);
     assert_eq!(cells, [2, 10, 4, 9]);
     assert_eq!(words[..4], [4, 12, 4, 2]);
     let numbers: Vec<u32> = (0..64).map(|row| words[live(row, 0) as usize]).collect();
     assert_eq!(numbers[..7], [3, 5, 6, 8, 9, 12, 0]);
     let row = |start: u32, length: usize| words[start as usize..start as usize + length].to_vec();
-    assert_eq!(row(live(1, 0), 28)[..11], [5, 2, 0, 2, ADD, 0, 1, READ, 1, 0, 0]);
+    assert_eq!(row(live(1, 0), 29)[..11], [5, 2, 0, 2, ADD, 0, 1, READ, 1, 0, 0]);
+    let attempts: Vec<u32> = (0..64).map(|row| words[live(row, ATTEMPT) as usize]).collect();
+    assert_eq!(attempts[..7], [1, 1, 1, 1, 1, 1, 0]);
+    assert_eq!((live(0, ATTEMPT), live(1, 0), run(0, 0), undo(0, 0)), (32, 33, 1860, 2116));
     assert_eq!(row(run(0, 0), 16), [2, 1, 0, 3, 0, 0, 0, 0, 0, 0, 0, 0, 0, 0, 0, 0]);
     assert_eq!(row(run(1, 0), 16), [1, 1, 1, 1, 0, 2, 2, 11, 0, 0, 0, 0, 0, 0, 0, 0]);
     assert_eq!(row(run(2, 0), 16), [1, 1, 0, 1, 0, 0, 0, 0, 0, 0, 0, 0, 0, 0, 0, 0]);
@@ -127,6 +134,10 @@ fn each_clause_of_soundness() {
             unsound("unused place", &[(live(row, field), 1)]);
         }
         unsound("cell outside", &[(live(row, 5), 4)]);
+        unsound("attempt 0", &[(live(row, ATTEMPT), 0)]);
+        for attempt in [65 - row, 65, TOP, TOP - row, 0u32.wrapping_sub(row)] {
+            unsound("attempt plus those ahead above 64", &[(live(row, ATTEMPT), attempt)]);
+        }
     }
     for (row, number) in [(1, 3), (1, 2), (3, 6), (4, 8), (5, 9)] {
         unsound("numbers not rising", &[(live(row, 0), number)]);
@@ -174,7 +185,7 @@ fn each_clause_of_soundness() {
 #[test]
 fn odd_records_that_are_sound() {
     let (words, cells) = base();
-    let odd: [&[(u32, u32)]; 20] = [
+    let odd: [&[(u32, u32)]; 24] = [
         &[],
         &[(CELLS, 4096)],
         &[(LARGEST, TOP)],
@@ -198,10 +209,16 @@ fn odd_records_that_are_sound() {
         &[(run(1, 4), 8), (run(1, 5), 8), (run(3, 4), 1)],
         &[(run(1, 5), 0)],
         &[(run(2, 2), 1), (run(3, 2), 0)],
+        // Attempts at their limits, in both queues; a later one that was undone more often than those ahead.
+        &[(live(0, ATTEMPT), 64), (live(1, ATTEMPT), 63), (live(2, ATTEMPT), 62), (live(3, ATTEMPT), 61)],
+        &[(live(4, ATTEMPT), 60), (live(5, ATTEMPT), 59)],
+        &[(live(3, ATTEMPT), 61), (live(5, ATTEMPT), 2)],
+        &[(live(6, ATTEMPT), 0), (live(63, ATTEMPT), TOP)],
         // Garbage in unused places.
         &[
             (live(6, 0), 1),
             (live(63, 27), TOP),
+            (live(62, ATTEMPT), TOP),
             (run(4, 0), TOP),
             (run(15, 15), 1),
             (undo(6, 0), TOP),
@@ -257,7 +274,7 @@ fn the_record_is_acted_on_as_it_says() {
     );
     let (number, answers, next) = careful_call(&odd, &mut cells.clone(), &Event::commit(3));
     assert_eq!((number, next[2], next[3]), (0, 2, 2));
-    assert_eq!(answers[0], [5, 0, 8, 1, 99, 0, 0, 0, 0, 0, 0, 0, 0, 0, 0, 0]);
+    assert_eq!(answers[0], [5, 0, 8, 1, 99, 0, 0, 0, 0, 0, 0, 0, 1, 0, 0, 0]);
     assert_eq!([answers[1][0], answers[1][1], answers.len() as u32], [6, 0, 2]);
     // An abort walks a failed one's entries too.
     let odd = with(&words, &[(run(3, 1), 2), (undo(5, 0), 3), (undo(5, 1), 70)]);
@@ -274,7 +291,8 @@ fn waiting_only(count: u32) -> Words {
     words[..4].copy_from_slice(&[1, count, 0, count]);
     for row in 0..count {
         let fragment = Event::single(row + 1, &[(ADD, 0, 1)]).fragment;
-        words[live(row, 0) as usize..live(row + 1, 0) as usize].copy_from_slice(&fragment.words());
+        words[live(row, 0) as usize..live(row, ATTEMPT) as usize].copy_from_slice(&fragment.words());
+        words[live(row, ATTEMPT) as usize] = 1;
     }
     words
 }
@@ -371,15 +389,16 @@ fn damaged_records() {
             let mut damaged = words;
             for _ in 0..random.between(1, 3) {
                 let row = random.below(words[2].max(1) as usize) as u32;
-                let field = random.below(FRAGMENT_WORDS) as u32;
-                let at = match random.below(5) {
+                let field = random.below(LIVE_WORDS) as u32;
+                let at = match random.below(6) {
                     0 => random.below(4) as u32,
                     1 => live(random.below(64) as u32, field),
                     2 => live(row, field % 7),
-                    3 => run(row, field % 16),
+                    3 => live(row, ATTEMPT),
+                    4 => run(row, field % 16),
                     _ => undo(random.below(16) as u32, field % 2),
                 } as usize;
-                damaged[at] = random.pick(&[0, 1, 2, 3, 8, 9, damaged[at] ^ 1, damaged[at].wrapping_add(1), TOP]);
+                damaged[at] = random.pick(&[0, 1, 2, 3, 8, 9, 64, damaged[at] ^ 1, damaged[at].wrapping_add(1), TOP]);
             }
             let front = damaged[LIVE];
             for event in [

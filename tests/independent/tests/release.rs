@@ -5,7 +5,7 @@ use independent::engine::{Uncommitted, ROOM};
 use independent::event::*;
 use independent::generate::{self, Random};
 use independent::trace;
-use independent::{Engine, Outcome, Scheme};
+use independent::{Dependence, Engine, Outcome, Scheme};
 
 /// A partition of one cell, and what its calls answer: number and dependence.
 struct Partition {
@@ -39,7 +39,7 @@ impl Partition {
     fn call_by(&mut self, scheme: Scheme, event: Event) -> Vec<(u32, u32)> {
         let (number, answers) = self.engine.call_by(scheme, &mut self.cells, &event, ROOM);
         assert_eq!(number, 0, "{event:?}");
-        answers.iter().map(|answer| (answer.number, answer.dependence)).collect()
+        answers.iter().map(|answer| (answer.number, answer.dependence.number)).collect()
     }
 
     fn commit(&mut self, number: u32) -> Vec<(u32, u32)> {
@@ -171,8 +171,8 @@ fn a_refused_commit_releases_nothing() {
     }
 }
 
-/// Generated runs, by any mix of schemes: what a call answers with a dependence names the nearest multi ahead, and a
-/// multi is held exactly where another coordinator is ahead of it.
+/// Generated runs, by any mix of schemes: what a call answers with a dependence names the nearest multi ahead and its
+/// attempt, and a multi is held exactly where another coordinator is ahead of it.
 #[test]
 fn held_behind_another_coordinator_alone() {
     let mut released = [0; 2];
@@ -191,13 +191,19 @@ fn held_behind_another_coordinator_alone() {
                 let mut ahead = uncommitted.iter().take(at).filter(|other| other.first.is_multi());
                 let foreign = ahead.clone().any(|other| other.first.coordinator != one.first.coordinator);
                 assert_eq!(one.held.is_some(), foreign, "seed {seed}");
-                let nearest = ahead.next_back().map_or(0, |other| other.first.number);
+                let nearest = ahead.next_back().map_or(Dependence::default(), |other| Dependence {
+                    number: other.first.number,
+                    attempt: other.attempt,
+                });
                 let mut told = answers.iter().filter(|answer| answer.number == number);
-                assert!(told.all(|answer| answer.dependence == nearest), "seed {seed}");
+                assert!(
+                    told.all(|answer| answer.dependence == nearest && answer.attempt == one.attempt),
+                    "seed {seed}"
+                );
             }
             let late = |number| event.kind == COMMIT && ran.contains(&number);
             released[scheme as usize] +=
-                answers.iter().filter(|answer| answer.dependence != 0 && late(answer.number)).count();
+                answers.iter().filter(|answer| answer.dependence.number != 0 && late(answer.number)).count();
         }
     }
     assert!(released.iter().all(|&count| count > 10), "{released:?}");

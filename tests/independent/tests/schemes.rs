@@ -16,17 +16,20 @@ fn matters(cells: &[u32], events: &[Event]) -> Vec<String> {
 
 #[test]
 fn depot_cases_by_blocking() {
-    // P1 and P2 have nothing but singles behind an unfinished front: nothing differs.
-    for decision in [Event::commit(1), Event::abort(1)] {
+    // P1 and P2 have nothing but singles behind an unfinished front: nothing differs but the attempts of P2, which are
+    // the first by blocking.
+    for (decision, lines) in [(Event::commit(1), 0), (Event::abort(1), 2)] {
         let mut events = examples::p1();
         events[4] = decision;
         let [one, two] = Scheme::ALL.map(|scheme| trace::replay(scheme, &trace::write(&[5], &events)));
-        assert_eq!(one, two);
+        let differ: Vec<_> = one.lines().zip(two.lines()).filter(|(one, two)| one != two).collect();
+        assert_eq!(differ, [("a 2 0 2 0 0 1 6", "a 2 0 1 0 0 1 6"), ("a 3 0 2 0 0 1 7", "a 3 0 1 0 0 1 7")][..lines]);
     }
     // P7: 2 and 3 wait, and cell 0 has nothing but 1's change.
-    assert_eq!(matters(&[5, 10], &examples::p7()), ["a 1 0 0 1 17", "c 0 17", "c 1 10"]);
+    assert_eq!(matters(&[5, 10], &examples::p7()), ["a 1 0 1 0 0 1 17", "c 0 17", "c 1 10"]);
     // P8: each multi is answered when it becomes the front, in the call of the commit ahead of it.
-    let p8 = ["a 1 0 0 1 17", "e 5 7", "a 2 0 0 1 18", "a 3 0 0 1 19", "a 4 0 0 1 19", "c 0 19", "c 1 10"];
+    let p8 =
+        ["a 1 0 1 0 0 1 17", "e 5 7", "a 2 0 1 0 0 1 18", "a 3 0 1 0 0 1 19", "a 4 0 1 0 0 1 19", "c 0 19", "c 1 10"];
     assert_eq!(matters(&[5, 10], &examples::p8()), p8);
 }
 
@@ -38,7 +41,8 @@ fn changeovers() {
     let mut call = |scheme, event| {
         let (number, answers) = engine.call_by(scheme, &mut cells, &event, ROOM);
         assert_eq!(number, 0, "{event:?}");
-        let told = answers.iter().map(|answer| (answer.number, answer.dependence, answer.outcome.numbers.clone()));
+        let told =
+            answers.iter().map(|answer| (answer.number, answer.dependence.number, answer.outcome.numbers.clone()));
         (told.collect::<Vec<_>>(), cells[0], engine.record.uncommitted.len(), engine.record.waiting.len())
     };
     let add = |number| Event::last(number, 1, &[(ADD, 0, 1)]);
@@ -76,12 +80,12 @@ impl Partition {
     }
 }
 
-/// Where two runs of a trace, each by a scheme for every event, first part in more than the answers of multis; else
-/// how often nothing was live.
-fn parted(trace: &Trace, fault: Fault, schemes: [&[Scheme]; 2]) -> Result<u32, String> {
+/// Where two runs of a trace, each by a scheme for every event, first part in more than the answers of multis and the
+/// attempts; else how often nothing was live, and how often singles were answered in other attempts.
+fn parted(trace: &Trace, fault: Fault, schemes: [&[Scheme]; 2]) -> Result<[u32; 2], String> {
     let (mut one, mut two) = (Partition::new(trace, fault), Partition::new(trace, fault));
     let mut singles = HashSet::new();
-    let mut settled = 0;
+    let (mut settled, mut attempts) = (0, 0);
     for (at, event) in trace.events.iter().enumerate() {
         let (number, mut answers) = one.call(schemes[0][at], event);
         let (again, mut others) = two.call(schemes[1][at], event);
@@ -90,6 +94,9 @@ fn parted(trace: &Trace, fault: Fault, schemes: [&[Scheme]; 2]) -> Result<u32, S
         }
         answers.retain(|answer| singles.contains(&answer.number));
         others.retain(|answer| singles.contains(&answer.number));
+        attempts += u32::from(answers != others);
+        let [answers, others] =
+            [answers, others].map(|all| all.into_iter().map(Answer::attempts_aside).collect::<Vec<_>>());
         let nothing_live = one.live().count() == 0;
         settled += u32::from(nothing_live);
         let parts = [
@@ -104,11 +111,11 @@ fn parted(trace: &Trace, fault: Fault, schemes: [&[Scheme]; 2]) -> Result<u32, S
             return Err(format!("event {}: the {what}", at + 1));
         }
     }
-    Ok(settled)
+    Ok([settled, attempts])
 }
 
 /// Both schemes beside each other, and each beside a mix of runs of some calls or of any.
-fn parted_in_any_mix(seed: u64, trace: &Trace, fault: Fault) -> Result<u32, String> {
+fn parted_in_any_mix(seed: u64, trace: &Trace, fault: Fault) -> Result<[u32; 2], String> {
     let mut random = Random(seed);
     let (mut scheme, changes) = (random.pick(&Scheme::ALL), random.pick(&[2, 10, 50]));
     let mut any = || {
@@ -118,7 +125,12 @@ fn parted_in_any_mix(seed: u64, trace: &Trace, fault: Fault) -> Result<u32, Stri
     let mix: Vec<Scheme> = trace.events.iter().map(|_| any()).collect();
     let [speculation, blocking] = Scheme::ALL.map(|scheme| vec![scheme; trace.events.len()]);
     let pairs = [[&speculation[..], &blocking], [&speculation, &mix], [&blocking, &mix]];
-    pairs.into_iter().map(|schemes| parted(trace, fault, schemes)).sum()
+    let mut counts = [0; 2];
+    for schemes in pairs {
+        let more = parted(trace, fault, schemes)?;
+        counts = [0, 1].map(|at: usize| counts[at] + more[at]);
+    }
+    Ok(counts)
 }
 
 fn traces() -> impl Iterator<Item = (u64, Trace)> {
@@ -127,12 +139,14 @@ fn traces() -> impl Iterator<Item = (u64, Trace)> {
 
 #[test]
 fn both_schemes_settle_alike() {
-    let mut settled = 0;
+    let mut counts = [0; 2];
     for (seed, trace) in traces() {
-        settled +=
+        let more =
             parted_in_any_mix(seed, &trace, Fault::None).unwrap_or_else(|parted| panic!("seed {seed}, {parted}"));
+        counts = [0, 1].map(|at: usize| counts[at] + more[at]);
     }
-    assert!(settled > 5000, "{settled}");
+    // The attempts are set aside for a reason.
+    assert!(counts[0] > 5000 && counts[1] > 1000, "{counts:?}");
 }
 
 /// The check above sees each wrong engine that parts the schemes, and takes no other for one.

@@ -1,7 +1,7 @@
 //! The areas of a call inside one allocation, with guard words between them.
 
-use independent::event::{EVENT_WORDS, FRAGMENT_WORDS};
-use independent::layout::{Words, LIVE, RUNS, RUN_WORDS, UNDO, WORDS};
+use independent::event::EVENT_WORDS;
+use independent::layout::{Words, LIVE, LIVE_WORDS, RUNS, RUN_WORDS, UNDO, WORDS};
 use std::ops::Range;
 
 /// An odd number, so that areas stand at places that are aligned to 4 bytes and to no more.
@@ -178,7 +178,7 @@ fn record_place(at: usize) -> String {
         1 => "largest".into(),
         2 => "uncommitted".into(),
         3 => "waiting".into(),
-        _ if at < RUNS => format!("live row {}, word {}", (at - LIVE) / FRAGMENT_WORDS, (at - LIVE) % FRAGMENT_WORDS),
+        _ if at < RUNS => format!("live row {}, word {}", (at - LIVE) / LIVE_WORDS, (at - LIVE) % LIVE_WORDS),
         _ if at < UNDO => format!("run row {}, word {}", (at - RUNS) / RUN_WORDS, (at - RUNS) % RUN_WORDS),
         _ => format!("undo entry {}, word {}", (at - UNDO) / 2, (at - UNDO) % 2),
     }

@@ -156,8 +156,10 @@ impl<S: Subject> Batch<'_, S> {
         let ran: Vec<u32> = (0..view.uncommitted()).filter(|_| commits).map(|row| view.stored(row, NUMBER)).collect();
         self.done += 1;
         let done = self.bench.call(scheme, lent, old_answers)?;
-        let released = if done.number == 0 { released(self.bench.areas(), done.answers, &ran) } else { 0 };
-        self.tally.note(scheme, Met { taken_over, released }, &done);
+        let areas = self.bench.areas();
+        let released = if done.number == 0 { released(areas, done.answers, &ran) } else { 0 };
+        let again = if clean && done.number == 0 { again(areas, done.answers) } else { [0; 3] };
+        self.tally.note(scheme, Met { taken_over, released, again }, &done);
         Ok(done)
     }
 
@@ -260,7 +262,20 @@ impl<S: Subject> Batch<'_, S> {
 /// How many of a commit's answers have a dependence although they ran before: these were held and are released.
 fn released(areas: &Arena, answers: u32, ran: &[u32]) -> usize {
     let answers = areas.room(ANSWER_WORDS * answers as usize).chunks_exact(ANSWER_WORDS);
-    answers.filter(|answer| answer[1] != 0 && ran.contains(&answer[0])).count()
+    answers.filter(|answer| answer[ANSWER_DEPENDENCE] != 0 && ran.contains(&answer[0])).count()
+}
+
+/// How many answers are of attempt 2 or more, how many depend on one, and how many on another attempt than their own.
+fn again(areas: &Arena, answers: u32) -> [u64; 3] {
+    let answers = areas.room(ANSWER_WORDS * answers as usize).chunks_exact(ANSWER_WORDS);
+    answers.fold([0; 3], |[again, dependent, apart], answer| {
+        let [attempt, of_dependence] = [answer[ANSWER_ATTEMPT], answer[ANSWER_ATTEMPT + 1]];
+        [
+            again + u64::from(attempt > 1),
+            dependent + u64::from(of_dependence > 1),
+            apart + u64::from(of_dependence != 0 && of_dependence != attempt),
+        ]
+    })
 }
 
 /// Whether a record that calls made shows that the other scheme made it: speculated ones for blocking, and for

@@ -1,4 +1,4 @@
-//! Refusal 1 of document 01 clause by clause: which ones a record breaks. A second writing of soundness beside the
+//! Refusal 1 of document 01 and request L2 clause by clause: which ones a record breaks. A second writing of soundness beside the
 //! independent engine's, to see that each clause was broken alone.
 
 use crate::listed::listed;
@@ -26,6 +26,8 @@ listed! {
         StoredCoordinator,
         StoredFlag,
         StoredCellOutside,
+        AttemptZero,
+        AttemptAndAheadAbove64,
         NoFragmentRun,
         BehindFrontMoreThanOneRun,
         FrontSingle,
@@ -95,6 +97,10 @@ fn stored(view: View, row: usize, broken: &mut Broken) {
     broken.note(Clause::NumberZero, number == 0);
     broken.note(Clause::NumbersNotRising, row > 0 && number <= view.stored(row - 1, NUMBER));
     broken.note(Clause::NumberAboveLargest, number > view.largest());
+
+    let attempt = view.stored(row, ATTEMPT);
+    broken.note(Clause::AttemptZero, attempt == 0);
+    broken.note(Clause::AttemptAndAheadAbove64, u64::from(attempt) + row as u64 > 64);
 
     let [flags, coordinator, count] = [FLAGS, COORDINATOR, COUNT].map(|field| view.stored(row, field));
     let single = flags & MULTI == 0;

@@ -7,7 +7,7 @@ use crate::view::*;
 use independent::engine::{DEPTH, MOST_LIVE};
 use independent::event::*;
 use independent::generate::Random;
-use independent::layout::{Words, LIVE, RUNS, RUN_WORDS, UNDO, UNDO_ENTRIES, WORDS};
+use independent::layout::{Words, LIVE, LIVE_WORDS, RUNS, RUN_WORDS, UNDO, UNDO_ENTRIES, WORDS};
 
 listed! {
     /// Without a plan.
@@ -45,6 +45,8 @@ listed! {
         SentOrHeld,
         Coordinators,
         StoredChanged,
+        Attempts,
+        AttemptsAtLimit,
         NumbersAtTop,
         Garbage,
     }
@@ -132,7 +134,8 @@ fn used_place(random: &mut Random, words: &Words) -> usize {
     let row = random.below(view.live().max(1));
     match random.below(4) {
         0 => random.below(4),
-        1 => live_at(row, random.below(FRAGMENT_WORDS)),
+        1 if random.percent(10) => live_at(row, ATTEMPT),
+        1 => live_at(row, random.below(LIVE_WORDS)),
         2 => run_at(random.below(view.uncommitted().max(1)), random.below(RUN_WORDS)),
         _ => undo_at(random.below(view.entries().max(1)), random.below(2)),
     }
@@ -143,7 +146,7 @@ fn some_row(random: &mut Random, words: &Words) -> (usize, usize) {
     let view = View(words);
     let all = random.percent(20);
     match random.below(3) {
-        0 => (live_at(random.below(if all { MOST_LIVE } else { view.live().max(1) }), 0), FRAGMENT_WORDS),
+        0 => (live_at(random.below(if all { MOST_LIVE } else { view.live().max(1) }), 0), LIVE_WORDS),
         1 => (run_at(random.below(if all { DEPTH } else { view.uncommitted().max(1) }), 0), RUN_WORDS),
         _ => (undo_at(random.below(if all { UNDO_ENTRIES } else { view.entries().max(1) }), 0), 2),
     }
@@ -233,6 +236,7 @@ fn fill_live(words: &mut Words, count: usize) -> Option<()> {
         let number = if row == 0 { 1 } else { words[live_at(row - 1, NUMBER)].checked_add(1)? };
         words[live_at(row, 0)..live_at(row + 1, 0)].fill(0);
         words[live_at(row, 0)..live_at(row, 7)].copy_from_slice(&[number, LAST, 0, 1, READ, 0, 0]);
+        words[live_at(row, ATTEMPT)] = 1;
         words[LARGEST] = words[LARGEST].max(number);
         words[WAITING] += 1;
     }
@@ -276,7 +280,7 @@ fn break_stored(clause: Clause, random: &mut Random, words: &mut Words, row: usi
     let used = random.below(count.clamp(1, PLACES));
     let operation = live_at(row, 4 + 3 * used);
     match clause {
-        Clause::StoredOperations if random.percent(30) => words[live_at(row, COUNT)..live_at(row + 1, 0)].fill(0),
+        Clause::StoredOperations if random.percent(30) => words[live_at(row, COUNT)..live_at(row, ATTEMPT)].fill(0),
         Clause::StoredOperations => {
             words[live_at(row, COUNT)] = random.pick(&[9, 9, 10, huge]);
             (1..PLACES)
@@ -302,6 +306,12 @@ fn break_stored(clause: Clause, random: &mut Random, words: &mut Words, row: usi
         Clause::StoredFlag => words[live_at(row, FLAGS)] |= 1 << random.between(2, 31),
         Clause::StoredCellOutside => {
             words[operation + 1] = random.pick(&[words[CELLS], words[CELLS], words[CELLS].saturating_add(1), TOP])
+        }
+        Clause::AttemptZero => words[live_at(row, ATTEMPT)] = 0,
+        Clause::AttemptAndAheadAbove64 => {
+            let most = View::most_attempt(row);
+            // A sum that comes round is too large as well.
+            words[live_at(row, ATTEMPT)] = random.pick(&[most + 1, most + 1, 65, huge, TOP - row as u32]);
         }
         _ => return None,
     }
@@ -388,6 +398,14 @@ fn odd(kind: Odd, random: &mut Random, words: &mut Words) -> Option<()> {
             let row = some(random, 0, live)?;
             store_another(random, words, row);
         }
+        Odd::Attempts if live > 0 => (0..live)
+            .for_each(|row| words[live_at(row, ATTEMPT)] = random.between(1, View::most_attempt(row) as usize) as u32),
+        // All of them, or one among others as they are: an undoing must not bring it beyond.
+        Odd::AttemptsAtLimit => {
+            let one = some(random, 0, live)?;
+            let rows = if random.percent(50) { 0..live } else { one..one + 1 };
+            rows.for_each(|row| words[live_at(row, ATTEMPT)] = View::most_attempt(row));
+        }
         Odd::NumbersAtTop => {
             let rise = TOP - view.stored(live.checked_sub(1)?, NUMBER);
             (0..live).for_each(|row| words[live_at(row, NUMBER)] += rise);
@@ -419,7 +437,7 @@ fn move_boundary(random: &mut Random, words: &mut Words, uncommitted: usize) -> 
 
 fn store_another(random: &mut Random, words: &mut Words, row: usize) {
     let count = random.between(1, PLACES);
-    words[live_at(row, COUNT)..live_at(row + 1, 0)].fill(0);
+    words[live_at(row, COUNT)..live_at(row, ATTEMPT)].fill(0);
     words[live_at(row, COUNT)] = count as u32;
     for place in 0..count {
         let code = random.between(1, 8) as u32;

@@ -6,7 +6,7 @@ use independent::Scheme;
 
 pub trait Subject {
     /// # Safety
-    /// The record is a place of 2,420 words.
+    /// The record is a place of 2,484 words.
     unsafe fn start(&mut self, record: *mut u32, cells: u32) -> u32;
 
     /// # Safety

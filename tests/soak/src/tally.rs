@@ -21,6 +21,8 @@ pub struct OfDamage {
 pub struct OfPairs {
     pub calls: u64,
     pub singles: u64,
+    /// Answers of singles that are equal but for their attempts.
+    pub attempts: u64,
     pub nothing_live: u64,
 }
 
@@ -33,6 +35,12 @@ pub struct OfScheme {
     /// Commits by how many held answers they released behind the front: one, two, more. In lives that nothing but calls
     /// made; by blocking, of what speculation left.
     pub released: [u64; 3],
+    /// Answers of attempt 2 or more, and those that depend on one. In lives that nothing but calls made; by blocking, of
+    /// what speculation left.
+    pub again: u64,
+    pub dependent_again: u64,
+    /// Answers that depend on another attempt than their own is.
+    pub apart: u64,
 }
 
 /// What is known of a call beside what it gave.
@@ -42,6 +50,8 @@ pub struct Met {
     pub taken_over: bool,
     /// Answers that it released.
     pub released: usize,
+    /// Answers of attempt 2 or more, answers that depend on one, and answers that depend on another attempt than theirs.
+    pub again: [u64; 3],
 }
 
 #[derive(Clone)]
@@ -86,6 +96,10 @@ impl Tally {
         let by = &mut self.by[scheme as usize];
         by.returned[number as usize] += 1;
         by.taken_over += u64::from(met.taken_over && number == 0);
+        let [again, dependent_again, apart] = met.again;
+        by.again += again;
+        by.dependent_again += dependent_again;
+        by.apart += apart;
         if let Some(at) = met.released.min(3).checked_sub(1) {
             by.released[at] += 1;
         }
@@ -94,6 +108,7 @@ impl Tally {
         if let Some(pair) = pair {
             self.pairs.calls += 1;
             self.pairs.singles += pair.singles as u64;
+            self.pairs.attempts += pair.attempts as u64;
             self.pairs.nothing_live += u64::from(pair.nothing_live);
         }
     }
@@ -114,13 +129,19 @@ impl Tally {
                 let or_more = if many == 3 { " or more" } else { "" };
                 (format!("a commit by {by} that releases {many}{or_more}"), of.released[many - 1])
             });
-            returned.chain([(format!("a changeover to {by}"), of.taken_over)]).chain(released)
+            let again = [
+                (format!("an answer of attempt 2 or more by {by}"), of.again),
+                (format!("a dependence on attempt 2 or more by {by}"), of.dependent_again),
+                (format!("a dependence on another attempt than its own by {by}"), of.apart),
+            ];
+            returned.chain([(format!("a changeover to {by}"), of.taken_over)]).chain(released).chain(again)
         });
         let corners = [
             ("16 uncommitted".to_string(), self.uncommitted[DEPTH]),
             ("64 live".to_string(), self.live[MOST_LIVE]),
             ("64 answers".to_string(), u64::from(self.most_answers == MOST_LIVE as u32)),
             ("a single of a pair".to_string(), self.pairs.singles),
+            ("a single of a pair in another attempt".to_string(), self.pairs.attempts),
             ("a pair with nothing live".to_string(), self.pairs.nothing_live),
         ];
         let damages = self.damages.iter().map(|(damage, of)| match damage {
@@ -143,7 +164,8 @@ impl fmt::Display for Tally {
         let Tally { calls, starts, lives, answers, most_answers, went_on, .. } = self;
         writeln!(f, "calls {calls} and {starts} starts, {lives} lives")?;
         writeln!(f, "answers sent {answers}, at most {most_answers} in a call")?;
-        for (scheme, OfScheme { returned, taken_over, released }) in Scheme::ALL.iter().zip(&self.by) {
+        for (scheme, of) in Scheme::ALL.iter().zip(&self.by) {
+            let OfScheme { returned, taken_over, released, again, dependent_again, apart } = of;
             let calls: u64 = returned.iter().sum();
             write!(f, "by {} {calls} calls, returned", scheme.word())?;
             for (number, count) in returned.iter().enumerate() {
@@ -154,14 +176,15 @@ impl fmt::Display for Tally {
             writeln!(
                 f,
                 "; accepted {share:.1} %, {taken_over} of them on a record that the other scheme left; commits that \
-                 released one {one}, two {two}, more {more}"
+                 released one {one}, two {two}, more {more}; answers of attempt 2 or more {again}, that depend on one \
+                 {dependent_again}, on another attempt than their own {apart}"
             )?;
         }
-        let OfPairs { calls, singles, nothing_live } = self.pairs;
+        let OfPairs { calls, singles, attempts, nothing_live } = self.pairs;
         writeln!(
             f,
             "pairs, the same event by either scheme: {calls} calls with equal numbers and equal ones live, {singles} \
-             equal answers of singles, {nothing_live} times nothing live and equal cells"
+             answers of singles, {attempts} of them equal but for the attempt, {nothing_live} times nothing live and equal cells"
         )?;
         let ((deep, deep_times), (full, full_times)) = (most(&self.uncommitted), most(&self.live));
         writeln!(

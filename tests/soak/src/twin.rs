@@ -1,14 +1,14 @@
 //! The twin of the partition that is tried: from the same start and handed the same events, each by the other scheme.
 //! The two return the same numbers, have the same ones live, answer singles alike, and hold the same cells whenever
-//! nothing is live. The answers of multis are their own.
+//! nothing is live. The answers of multis are their own, and so are the attempts.
 
 use crate::arena::{Arena, Lent};
 use crate::bench::{Between, Difference};
 use crate::subject::Subject;
 use crate::view::*;
 use independent::engine::{ANSWER_WORDS, MOST_LIVE};
-use independent::event::{FRAGMENT_WORDS, MULTI};
-use independent::layout::LIVE;
+use independent::event::MULTI;
+use independent::layout::{Words, LIVE, LIVE_WORDS, RUNS};
 use independent::Scheme;
 
 pub struct Twin {
@@ -21,6 +21,8 @@ pub struct Twin {
 #[derive(Clone, Copy)]
 pub struct Pair {
     pub singles: usize,
+    /// Of these, answered in another attempt.
+    pub attempts: usize,
     pub nothing_live: bool,
 }
 
@@ -63,19 +65,18 @@ impl Twin {
             return Err(differs("the returned number", [number, own_number]));
         }
         if number != 0 {
-            return Ok(Pair { singles: 0, nothing_live: false });
+            return Ok(Pair { singles: 0, attempts: 0, nothing_live: false });
         }
         let was = View(before.record());
         let single = |answer: &&[u32]| is_single(answer[0], was, event);
         let singles = of_answers(after, answers).filter(single);
         let own_singles = of_answers(&self.areas, own_answers).filter(single);
-        if !singles.clone().eq(own_singles.clone()) {
+        if !singles.clone().map(attempts_aside).eq(own_singles.clone().map(attempts_aside)) {
             return Err(differs("answers of singles", [singles.count(), own_singles.count()].map(|n| n as u32)));
         }
         let (record, own) = (after.record(), self.areas.record());
         let live = View(record).live();
-        let rows = LIVE..LIVE + FRAGMENT_WORDS * live;
-        if live != View(own).live() || record[LARGEST] != own[LARGEST] || record[rows.clone()] != own[rows] {
+        if live != View(own).live() || record[LARGEST] != own[LARGEST] || !stored(record).eq(stored(own)) {
             return Err(differs("the live ones", [live, View(own).live()].map(|n| n as u32)));
         }
         if live == 0 && after.cells(count) != self.areas.cells(count) {
@@ -83,13 +84,24 @@ impl Twin {
             let (cell, (&content, &own)) = cells.find(|(_, (one, two))| one != two).expect("unequal");
             return Err(differs(&format!("nothing is live, cell {cell}"), [content, own]));
         }
-        Ok(Pair { singles: singles.count(), nothing_live: live == 0 })
+        let attempts = singles.clone().zip(own_singles).filter(|(one, own)| one != own).count();
+        Ok(Pair { singles: singles.count(), attempts, nothing_live: live == 0 })
     }
 }
 
 /// The answers in a room. That they are no more than there may be is for the one who compares calls whole.
 fn of_answers(areas: &Arena, answers: u32) -> impl Iterator<Item = &[u32]> + Clone {
     areas.room(ANSWER_WORDS * MOST_LIVE.min(answers as usize)).chunks_exact(ANSWER_WORDS)
+}
+
+/// An answer's words without the thirteenth and the fourteenth.
+fn attempts_aside(answer: &[u32]) -> (&[u32], &[u32]) {
+    (&answer[..ANSWER_ATTEMPT], &answer[ANSWER_ATTEMPT + 2..])
+}
+
+/// The live rows of a record, but for their attempts.
+fn stored(record: &Words) -> impl Iterator<Item = &[u32]> {
+    record[LIVE..RUNS].chunks_exact(LIVE_WORDS).take(View(record).live()).map(|row| &row[..ATTEMPT])
 }
 
 /// Of one that was live, or is the event's.

@@ -1,19 +1,19 @@
 //! A record of any words, read without trust: counts are cut to what there is room for.
 
 use independent::engine::{DEPTH, MOST_LIVE};
-use independent::event::FRAGMENT_WORDS;
-use independent::layout::{Words, LIVE, RUNS, RUN_WORDS, UNDO, UNDO_ENTRIES};
+use independent::layout::{Words, LIVE, LIVE_WORDS, RUNS, RUN_WORDS, UNDO, UNDO_ENTRIES};
 
 pub const CELLS: usize = 0;
 pub const LARGEST: usize = 1;
 pub const UNCOMMITTED: usize = 2;
 pub const WAITING: usize = 3;
 
-/// Words of a live row; eight times code, cell, amount follow.
+/// Words of a live row; eight times code, cell, amount stand between the count and the attempt.
 pub const NUMBER: usize = 0;
 pub const FLAGS: usize = 1;
 pub const COORDINATOR: usize = 2;
 pub const COUNT: usize = 3;
+pub const ATTEMPT: usize = 28;
 
 /// Words of a run row; eight held numbers follow.
 pub const FRAGMENTS: usize = 0;
@@ -23,6 +23,10 @@ pub const ENTRIES: usize = 3;
 pub const PLACE: usize = 4;
 pub const NUMBERS: usize = 5;
 
+/// Words of an answer, counted from 0: its dependence, its attempt and, after this, that of the dependence.
+pub const ANSWER_DEPENDENCE: usize = 1;
+pub const ANSWER_ATTEMPT: usize = 12;
+
 pub const RUNNING: u32 = 0;
 pub const FINISHED: u32 = 1;
 pub const FAILED: u32 = 2;
@@ -30,7 +34,7 @@ pub const HELD: u32 = 1;
 
 /// Where a word of a live row stands in the record.
 pub fn live_at(row: usize, field: usize) -> usize {
-    LIVE + FRAGMENT_WORDS * row + field
+    LIVE + LIVE_WORDS * row + field
 }
 
 pub fn run_at(row: usize, field: usize) -> usize {
@@ -60,6 +64,11 @@ impl View<'_> {
 
     pub fn stored(&self, row: usize, field: usize) -> u32 {
         self.0[live_at(row, field)]
+    }
+
+    /// The largest attempt that is sound in a row: with those ahead it makes 64.
+    pub fn most_attempt(row: usize) -> u32 {
+        (MOST_LIVE - row) as u32
     }
 
     pub fn run(&self, row: usize, field: usize) -> u32 {

@@ -4,9 +4,9 @@ use crate::arena::Areas;
 use crate::clauses::{broken, Clause};
 use crate::listed::listed;
 use crate::subject::Subject;
-use crate::view::{CELLS, UNCOMMITTED, WAITING};
-use independent::engine::{State, ANSWER_WORDS, ROOM};
-use independent::event::{Event, EVENT_WORDS};
+use crate::view::{live_at, View, ANSWER_ATTEMPT, ATTEMPT, CELLS, NUMBER, UNCOMMITTED, WAITING};
+use independent::engine::{State, ANSWER_WORDS, MOST_LIVE, ROOM};
+use independent::event::{Event, ABORT, EVENT_WORDS};
 use independent::layout::{self, Words, RUNS, RUN_WORDS, UNDO, WORDS};
 use independent::{Engine, Fault, Record, Scheme};
 use std::hint::black_box;
@@ -54,6 +54,22 @@ listed! {
         FailedOwnsNothing,
         EmptyWithWaitingUnsound,
         LargestTopUnsound,
+        /// Asks that no attempt is above 64, whoever is ahead.
+        AheadNotCounted,
+        /// Counts the uncommitted ones ahead alone.
+        AheadUncommittedAlone,
+        /// Asks the attempts of uncommitted ones alone.
+        WaitingAttemptsUnasked,
+        /// Lets attempt plus those ahead be 63 at most.
+        AttemptAndAhead63,
+        /// Asks that attempts do not rise along the queue, as no run lets them.
+        AttemptsRisingUnsound,
+        /// Leaves every attempt 1 after an abort, though it answers right.
+        AttemptsResetByAnAbort,
+        /// Keeps what stands in the attempts behind the live ones.
+        AttemptGarbageKept,
+        /// Sends no attempt with the answer to a later fragment of the front.
+        LaterAnswerWithoutAttempt,
         StartKeepsRecord,
         StartKeepsBadCount,
         StartOf4097,
@@ -134,11 +150,35 @@ impl Call<'_> {
     }
 
     fn unchecked(&mut self, clause: Clause) -> (u32, u32) {
-        match broken(self.record).only(clause) {
+        self.goes_on(broken(self.record).only(clause))
+    }
+
+    /// Goes on with an unsound record.
+    fn goes_on(&mut self, when: bool) -> (u32, u32) {
+        match when {
             true if self.room.len() < ROOM => (2, 0),
             true => (0, 0),
             false => self.right(),
         }
+    }
+
+    /// Goes on with a record that is unsound by nothing but attempts that pass, by their row and with so many uncommitted.
+    fn lets_attempts_pass(&mut self, passes: impl Fn(usize, usize, u32) -> bool) -> (u32, u32) {
+        let mut passed = *self.record;
+        let view = View(self.record);
+        for row in (0..view.live()).filter(|&row| passes(row, view.uncommitted(), view.stored(row, ATTEMPT))) {
+            passed[live_at(row, ATTEMPT)] = 1;
+        }
+        self.goes_on(broken(self.record).any() && !broken(&passed).any())
+    }
+
+    /// Whether the attempts of a row and of the one behind it are so.
+    fn attempts_are(&self, so: impl Fn(usize, u32, u32) -> bool) -> bool {
+        let view = View(self.record);
+        (0..view.live()).any(|row| {
+            let next = if row + 1 < view.live() { view.stored(row + 1, ATTEMPT) } else { 0 };
+            so(row, view.stored(row, ATTEMPT), next)
+        })
     }
 
     fn by_clauses(&mut self) -> (u32, u32) {
@@ -270,6 +310,15 @@ impl Slip {
             }),
             Slip::EmptyWithWaitingUnsound => call.refuses(call.record[UNCOMMITTED] == 0 && call.record[WAITING] > 0, 1),
             Slip::LargestTopUnsound => call.refuses(call.record[1] == u32::MAX, 1),
+            Slip::AheadNotCounted => call.lets_attempts_pass(|_, _, attempt| (1..=64).contains(&attempt)),
+            Slip::AheadUncommittedAlone => call.lets_attempts_pass(|row, uncommitted, attempt| {
+                (1..=64 - uncommitted.min(row) as u32).contains(&attempt)
+            }),
+            Slip::WaitingAttemptsUnasked => call.lets_attempts_pass(|row, uncommitted, _| row >= uncommitted),
+            Slip::AttemptAndAhead63 => {
+                call.refuses(call.attempts_are(|row, attempt, _| attempt == View::most_attempt(row)), 1)
+            }
+            Slip::AttemptsRisingUnsound => call.refuses(call.attempts_are(|_, attempt, next| next > attempt), 1),
             Slip::SchemesSwapped => call.by(call.scheme.other()),
             Slip::LateChangeover if call.record[UNCOMMITTED] > 1 => call.by(Scheme::Speculation),
             _ => call.right(),
@@ -293,6 +342,18 @@ impl Slip {
                 for row in (RUNS..UNDO).step_by(RUN_WORDS) {
                     call.record[row + 14..row + 16].copy_from_slice(&before[row + 14..row + 16]);
                 }
+            }
+            Slip::AttemptsResetByAnAbort if call.event[0] == ABORT => {
+                (0..View(call.record).live()).for_each(|row| call.record[live_at(row, ATTEMPT)] = 1);
+            }
+            Slip::AttemptGarbageKept => {
+                for row in View(call.record).live()..MOST_LIVE {
+                    call.record[live_at(row, ATTEMPT)] = before[live_at(row, ATTEMPT)];
+                }
+            }
+            Slip::LaterAnswerWithoutAttempt if before[UNCOMMITTED] > 0 && answers > 0 => {
+                let of_front = before[live_at(0, NUMBER)] == call.room[0];
+                call.room[ANSWER_ATTEMPT] *= u32::from(!of_front);
             }
             Slip::GarbageInAnswers if answers > 0 => call.room[filled - 1] = before[RUNS + RUN_WORDS - 1],
             _ => {}

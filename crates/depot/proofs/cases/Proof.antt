@@ -12,7 +12,7 @@ abbrev Inv-loop : tie.InvT-loop
 Inv-loop out₀ r cells₀ room₀ at₀ i₀ out cells room at i = (length out ≡ length out₀) × (length cells ≡ length cells₀) × (length room ≡ length room₀)
 
 abbrev μ-loop : tie.MeasureT-loop
-μ-loop out₀ r cells₀ room₀ at₀ i₀ out cells room at i = 63 - i
+μ-loop out₀ r cells₀ room₀ at₀ i₀ out cells room at i = 75 - i
 
 loop-holds : tie.Need-loop-holds Inv-loop μ-loop
 loop-holds c = (refl, refl, refl)

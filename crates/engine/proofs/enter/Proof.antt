@@ -56,9 +56,9 @@ returns-2 c = let a = c .before .before .before .before .before .before .before 
     )
 
 abort-requires : tie.Need-abort-requires
-abort-requires c κs = let a = c .before .before .before .before .before .before .before .before .before .before .before .before .args in
-    let p = c .before .before .before .before .before .before .before .before .before .before .before .before .pre in
-    (fair-of (p .0) (a .live .now) (a .runs .now) (a .undo .now) (a .room .now) (a .cells .now) (a .c) (a .event) (p .1 .0) (p .1 .1), some-uncommitted (p .0) (a .live .now) (a .runs .now) (a .undo .now) (a .room .now) (a .cells .now) (a .c) (a .event) (p .1 .0) (p .1 .1) (ne-eqb (a .event .kind) 1 (c .before .before .before .before .before .if1 .left)))
+abort-requires c κs = let a = c .before .before .before .before .before .before .before .before .before .before .before .before .before .args in
+    let p = c .before .before .before .before .before .before .before .before .before .before .before .before .before .pre in
+    (fair-of (p .0) (a .live .now) (a .runs .now) (a .undo .now) (a .room .now) (a .cells .now) (a .c) (a .event) (p .1 .0) (p .1 .1), some-uncommitted (p .0) (a .live .now) (a .runs .now) (a .undo .now) (a .room .now) (a .cells .now) (a .c) (a .event) (p .1 .0) (p .1 .1) (ne-eqb (a .event .kind) 1 (c .before .before .before .before .before .before .if1 .left)))
 
 same-length-10 : tie.Need-same-length-10
 same-length-10 c = search needs
@@ -69,10 +69,13 @@ same-length-11 c = search needs
 same-length-12 : tie.Need-same-length-12
 same-length-12 c = search needs
 
+same-length-13 : tie.Need-same-length-13
+same-length-13 c = search needs
+
 returns-3 : tie.Need-returns-3
-returns-3 c = let a = c .before .before .before .before .before .before .before .before .before .before .before .before .before .before .before .before .before .before .before .args in
-    let s = c .before .before .before .before .before .before .abort in (
-      λ σ e rd. abort-begun σ (a .live .now) (a .runs .now) (a .undo .now) (a .room .now) (a .cells .now) (a .c) (a .event) e rd (ne-eqb (a .event .kind) 1 (c .before .before .before .before .before .before .before .before .before .before .before .before .if1 .left)) (ne-eqb (a .event .kind) 2 (c .before .before .before .before .before .before .before .before .before .before .if2 .left)) (s .last .0) (s .last .1 .0) (s .last .1 .1 .0) (s .result) (s .ensures .1 .0) (s .ensures .0),
+returns-3 c = let a = c .before .before .before .before .before .before .before .before .before .before .before .before .before .before .before .before .before .before .before .before .before .before .args in
+    let s = c .before .before .before .before .before .before .before .before .abort in (
+      λ σ e rd. abort-begun σ (a .live .now) (a .runs .now) (a .undo .now) (a .room .now) (a .cells .now) (a .c) (a .event) e rd (ne-eqb (a .event .kind) 1 (c .before .before .before .before .before .before .before .before .before .before .before .before .before .before .before .if1 .left)) (ne-eqb (a .event .kind) 2 (c .before .before .before .before .before .before .before .before .before .before .before .before .before .if2 .left)) (s .last .0) (s .last .1 .0) (s .last .1 .1 .0) (s .last .1 .1 .1 .0) (s .result) (s .ensures .1 .0) (s .ensures .0),
       s .ensures .1 .1,
     )
 
@@ -97,4 +100,5 @@ enter-spec =
     same-length-10
     same-length-11
     same-length-12
+    same-length-13
     returns-3)

@@ -24,7 +24,7 @@ put-line-requires : tie.Need-put-line-requires
 put-line-requires c κs =
     let a = c .before .before .before .before .before .before .before .args in
     let d = c .before .before .before .put-a in
-    written-fits (replicate 160 0) (d .last .0) (lineA (a .room .now) (a .i)) (a .at) (d .result) 134 (d .ensures .0) (d .ensures .1) (length-a (a .room .now) (a .i)) (omega arith) (c .before .before .before .before .before .before .before .pre)
+    written-fits (replicate 160 0) (d .last .0) (lineA (a .room .now) (a .i)) (a .at) (d .result) 156 (d .ensures .0) (d .ensures .1) (length-a (a .room .now) (a .i)) (omega arith) (c .before .before .before .before .before .before .before .pre)
 
 same-length : tie.Need-same-length
 same-length c = search needs

@@ -15,7 +15,7 @@ use Rattle.listing.proofs.put_a.Reads as put-a-reads
 
 abbrev Inv-loop : tie.InvT-loop
 Inv-loop buffer₀ from at room count p₀ i₀ buffer p i =
-    (i ≤ count) × (p ≤ at + 134 * i) × (length buffer ≡ length buffer₀)
+    (i ≤ count) × (p ≤ at + 156 * i) × (length buffer ≡ length buffer₀)
     × Left from buffer buffer₀ p at (together (linesFrom (lineA room) i (count - i))) (together (linesFrom (lineA room) 0 count))
 
 abbrev μ-loop : tie.MeasureT-loop

@@ -31,7 +31,7 @@ array-copy-out-i : tie.Need-array-copy-out-i
 array-copy-out-i c = search needs
 
 returns : tie.Need-returns
-returns c = row-words (c .before .before .before .before .before .before .before .before .before .args .number) (c .before .before .before .before .before .before .before .before .before .args .f) (search (unmapped, needs))
+returns c = row-words (c .before .before .before .before .before .before .before .before .before .args .number) (c .before .before .before .before .before .before .before .before .before .args .attempt) (c .before .before .before .before .before .before .before .before .before .args .f) (search (unmapped, needs))
 
 pub row-words-spec : {M : Type 1} → statement M
 row-words-spec =

@@ -35,7 +35,7 @@ array-read-t30 : tie.Need-array-read-t30
 array-read-t30 c = search needs
 
 returns : tie.Need-returns
-returns c = let e : length (c .args .t5) ≡ 8 = search needs in ap {B = List ℕ} (λ (x : List ℕ). answerRow (c .args .number) (c .args .dependence) (c .args .place) (c .args .count) x) (eight 0 (c .args .t5) e)
+returns c = let e : length (c .args .t5) ≡ 8 = search needs in ap {B = List ℕ} (λ (x : List ℕ). answerRow (c .args .own) (c .args .near) (c .args .place) (c .args .count) x) (eight 0 (c .args .t5) e)
 
 pub answer-row-spec : {M : Type 1} → statement M
 answer-row-spec =

@@ -80,8 +80,8 @@ answer-row-requires c κs = search needs
 returns : tie.Need-returns
 returns c =
     let a = c .before .before .before .before .before .before .before .before .before .before .before .before .args in
-    c .answer-row .ensures ∙ (λ j. a .number ∷ a .dependence ∷ c .before .before .before .before .before .before .before .before .before .before .number-at .ensures j ∷ c .before .before .before .before .before .before .before .before .before .number-at2 .ensures j ∷ c .before .before .before .before .before .before .before .before .number-at3 .ensures j ∷ c .before .before .before .before .before .before .before .number-at4 .ensures j ∷ c .before .before .before .before .before .before .number-at5 .ensures j ∷ c .before .before .before .before .before .number-at6 .ensures j ∷ c .before .before .before .before .number-at7 .ensures j ∷ c .before .before .before .number-at8 .ensures j ∷ c .before .before .number-at9 .ensures j ∷ c .before .number-at10 .ensures j ∷ 0 ∷ 0 ∷ 0 ∷ 0 ∷ [])
-    ∙ ap (λ (x : List ℕ). a .number ∷ a .dependence ∷ x ++ (0 ∷ 0 ∷ 0 ∷ 0 ∷ [])) (ten (a .runs .now) (runWidth * a .i))
+    c .answer-row .ensures ∙ (λ j. a .own .number ∷ a .near .number ∷ c .before .before .before .before .before .before .before .before .before .before .number-at .ensures j ∷ c .before .before .before .before .before .before .before .before .before .number-at2 .ensures j ∷ c .before .before .before .before .before .before .before .before .number-at3 .ensures j ∷ c .before .before .before .before .before .before .before .number-at4 .ensures j ∷ c .before .before .before .before .before .before .number-at5 .ensures j ∷ c .before .before .before .before .before .number-at6 .ensures j ∷ c .before .before .before .before .number-at7 .ensures j ∷ c .before .before .before .number-at8 .ensures j ∷ c .before .before .number-at9 .ensures j ∷ c .before .number-at10 .ensures j ∷ a .own .attempt ∷ a .near .attempt ∷ 0 ∷ 0 ∷ [])
+    ∙ ap (λ (x : List ℕ). a .own .number ∷ a .near .number ∷ x ++ (a .own .attempt ∷ a .near .attempt ∷ 0 ∷ 0 ∷ [])) (ten (a .runs .now) (runWidth * a .i))
 
 pub held-row-spec : {M : Type 1} → statement M
 held-row-spec =

@@ -55,7 +55,7 @@ live-ok-requires c κs = search needs
 returns-4 : tie.Need-returns-4
 unfolding groups
 returns-4 c = let a = c .before .before .before .before .before .before .before .before .before .before .before .before .before .args in
-    let l : liveFrom (a .counts .largest) (a .counts .cells) (a .live .now) 0 (a .counts .uncommitted + a .counts .waiting) 0 ≡ false = sym (c .before .live-ok .ensures) ∙ not-true (c .before .live-ok .result) (c .if4 .taken) in
+    let l : liveFrom (a .counts .largest) (a .counts .cells) (a .live .now) 0 (a .counts .uncommitted + a .counts .waiting) 0 0 ≡ false = sym (c .before .live-ok .ensures) ∙ not-true (c .before .live-ok .result) (c .if4 .taken) in
     let g : false ≡ grouped (a .counts) (a .live .now) (a .runs .now) (a .undo .now) = rw (le-leb (a .counts .cells) 4096 (c .before .before .before .before .before .before .before .before .if1 .left), le-leb (a .counts .uncommitted) 16 (c .before .before .before .before .before .before .if2 .left), le-leb (a .counts .uncommitted + a .counts .waiting) 64 (omega arith), l) in
     g ∙ grouped-sound (a .counts) (a .live .now) (a .runs .now) (a .undo .now)
 
@@ -65,7 +65,7 @@ members-ok-requires c κs = search needs
 returns-5 : tie.Need-returns-5
 unfolding groups
 returns-5 c = let a = c .before .before .before .before .before .before .before .before .before .before .before .before .before .before .before .args in
-    let l : liveFrom (a .counts .largest) (a .counts .cells) (a .live .now) 0 (a .counts .uncommitted + a .counts .waiting) 0 ≡ true = sym (c .before .before .before .live-ok .ensures) ∙ not-false (c .before .before .before .live-ok .result) (c .before .before .if4 .left) in
+    let l : liveFrom (a .counts .largest) (a .counts .cells) (a .live .now) 0 (a .counts .uncommitted + a .counts .waiting) 0 0 ≡ true = sym (c .before .before .before .live-ok .ensures) ∙ not-false (c .before .before .before .live-ok .result) (c .before .before .if4 .left) in
     let m : membersOk (a .live .now) (a .runs .now) (a .counts .uncommitted) ≡ false = sym (c .before .members-ok .ensures) ∙ not-true (c .before .members-ok .result) (c .if5 .taken) in
     let g : false ≡ grouped (a .counts) (a .live .now) (a .runs .now) (a .undo .now) = rw (le-leb (a .counts .cells) 4096 (c .before .before .before .before .before .before .before .before .before .before .if1 .left), le-leb (a .counts .uncommitted) 16 (c .before .before .before .before .before .before .before .before .if2 .left), le-leb (a .counts .uncommitted + a .counts .waiting) 64 (omega arith), l, m) in
     g ∙ grouped-sound (a .counts) (a .live .now) (a .runs .now) (a .undo .now)
@@ -79,7 +79,7 @@ undo-ok-requires c κs = search needs
 returns-6 : tie.Need-returns-6
 unfolding groups
 returns-6 c = let a = c .before .before .before .before .before .before .before .before .before .before .before .before .before .before .before .before .before .args in
-    let l : liveFrom (a .counts .largest) (a .counts .cells) (a .live .now) 0 (a .counts .uncommitted + a .counts .waiting) 0 ≡ true = sym (c .before .before .before .before .before .live-ok .ensures) ∙ not-false (c .before .before .before .before .before .live-ok .result) (c .before .before .before .before .if4 .left) in
+    let l : liveFrom (a .counts .largest) (a .counts .cells) (a .live .now) 0 (a .counts .uncommitted + a .counts .waiting) 0 0 ≡ true = sym (c .before .before .before .before .before .live-ok .ensures) ∙ not-false (c .before .before .before .before .before .live-ok .result) (c .before .before .before .before .if4 .left) in
     let m : membersOk (a .live .now) (a .runs .now) (a .counts .uncommitted) ≡ true = sym (c .before .before .before .members-ok .ensures) ∙ not-false (c .before .before .before .members-ok .result) (c .before .before .if5 .left) in
     let g : c .undo-ok .result ≡ grouped (a .counts) (a .live .now) (a .runs .now) (a .undo .now) = rw (le-leb (a .counts .cells) 4096 (c .before .before .before .before .before .before .before .before .before .before .before .before .if1 .left), le-leb (a .counts .uncommitted) 16 (c .before .before .before .before .before .before .before .before .before .before .if2 .left), le-leb (a .counts .uncommitted + a .counts .waiting) 64 (omega arith), l, m) (c .undo-ok .ensures ∙ ap (undoOk (a .counts .cells) (a .undo .now) 0) (c .before .total .ensures .0)) in
     g ∙ grouped-sound (a .counts) (a .live .now) (a .runs .now) (a .undo .now)

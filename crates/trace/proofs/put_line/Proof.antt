@@ -1,5 +1,6 @@
 use native.Mathlib.Omega.{arith}
-use Rattle.trace.proofs.Lines.{line-place, line-is, length-fields}
+use Rattle.trace.specs.Text.{fieldsFrom, lineFrom}
+use Rattle.trace.proofs.Lines.{line-is, length-fields}
 use borrow.Author.Needs.{needs}
 use Rattle.trace.proofs.put_line.Statement.{statement}
 use Rattle.trace.proofs.put_line.Tie as tie
@@ -27,9 +28,10 @@ same-length : tie.Need-same-length
 same-length c = search needs
 
 returns : tie.Need-returns
+unfolding lineFrom
 returns c = let a = c .before .before .before .before .before .before .before .before .before .before .before .before .before .before .args in
     let f = c .before .before .before .before .before .before .put-fields in
-    (line-place (a .letter) (a .row .now) (a .from) (a .count) (a .at) (f .result) (f .ensures .0), line-is (a .letter) (a .row .now) (a .from) (a .count) (a .at) (a .buffer .now) (c .before .before .before .before .before .before .before .before .before .before .put-byte .last .0) (f .last .0) (c .before .before .put-byte2 .last .0) (f .result) (c .before .before .before .before .before .before .before .before .before .before .put-byte .ensures) (f .ensures .1) (f .ensures .0) (c .before .before .put-byte2 .ensures))
+    line-is (a .letter) (fieldsFrom (a .row .now) (a .from) (a .count)) (a .buffer .now) (c .before .before .before .before .before .before .before .before .before .before .put-byte .last .0) (f .last .0) (c .before .before .put-byte2 .last .0) (a .at) (f .result) (c .before .before .before .before .before .before .before .before .before .before .put-byte .ensures) (f .ensures .0) (f .ensures .1) (c .before .before .put-byte2 .ensures)
 
 pub put-line-spec : {M : Type 1} → statement M
 put-line-spec =

@@ -20,7 +20,6 @@ use Rattle.engine.proofs.drain.take_first.Reads as reads
 use Rattle.engine.proofs.drain.take_first.Lts as lts
 use Rattle.operations.proofs.is_last.Reads as is-last-reads
 use Rattle.operations.proofs.is_multi.Reads as is-multi-reads
-use Rattle.operations.proofs.number_at.Reads as number-at-reads
 use Rattle.operations.proofs.run_fragment.Reads as run-fragment-reads
 use Rattle.engine.proofs.drain.answer_if.Reads as answer-if-reads
 use Rattle.rows.proofs.is_answered.Reads as is-answered-reads
@@ -30,6 +29,7 @@ use Rattle.rows.proofs.nearest_multi.Reads as nearest-multi-reads
 use Rattle.rows.proofs.one_coordinator.Reads as one-coordinator-reads
 use Rattle.record.proofs.fragment_at.Reads as fragment-at-reads
 use Rattle.engine.proofs.course.Course.sends.Reads as sends-reads
+use Rattle.rows.proofs.trial_at.Reads as trial-at-reads
 
 add-at : tie.Need-add-at
 add-at c = search needs
@@ -40,11 +40,8 @@ mul-at c = search needs
 mul-from : tie.Need-mul-from
 mul-from c = search needs
 
-cast-number-at : tie.Need-cast-number-at
-cast-number-at c = search needs
-
-number-at-requires : tie.Need-number-at-requires
-number-at-requires c κs = search needs
+trial-at-requires : tie.Need-trial-at-requires
+trial-at-requires c κs = search needs
 
 fragment-at-requires : tie.Need-fragment-at-requires
 fragment-at-requires c κs = search needs
@@ -106,10 +103,10 @@ returns c = let p = c .before .before .before .before .before .before .before .b
         s .1,
         (
           λ gone us w ws sent room₀ wk ct top sd tk.
-              take-first-left (a .live .now) (a .runs .now) (a .undo .now) (a .room .now) (a .cells .now) (a .c) (c .before .before .before .before .before .before .before .before .before .before .before .before .before .before .before .before .before .before .before .before .before .before .before .number-at .result) (c .before .before .before .before .before .before .before .before .before .before .before .before .before .before .before .before .before .before .before .before .before .before .fragment-at .result) (r .result) (c .before .before .before .before .before .before .before .before .before .before .before .before .before .before .before .before .before .is-multi .result) (c .before .before .before .before .before .before .before .before .before .before .before .before .before .before .before .before .is-last .result)
+              take-first-left (a .live .now) (a .runs .now) (a .undo .now) (a .room .now) (a .cells .now) (a .c) (c .before .before .before .before .before .before .before .before .before .before .before .before .before .before .before .before .before .before .before .before .before .before .before .trial-at .result) (c .before .before .before .before .before .before .before .before .before .before .before .before .before .before .before .before .before .before .before .before .before .before .fragment-at .result) (r .result) (c .before .before .before .before .before .before .before .before .before .before .before .before .before .before .before .before .before .is-multi .result) (c .before .before .before .before .before .before .before .before .before .before .before .before .before .before .before .before .is-last .result)
               (c .before .before .before .before .before .before .before .before .before .before .before .before .before .before .before .one-coordinator .result) (c .before .before .before .before .before .before .before .before .before .before .before .before .before .is-answered .result) (c .before .before .before .before .before .before .before .before .before .before .before .before .is-joining .result) (c .before .before .before .before .before .before .before .before .before .before .before .before .before .before .nearest-multi .result) (c .before .before .before .before .before .before .before .before .before .before .answer-if .result) (j .last .1 .0) (j .last .1 .1 .0) (c .before .before .before .before .before .before .before .before .before .before .answer-if .last .1 .0) (r .last .0) (j .result)
               (record {
-                numbered = c .before .before .before .before .before .before .before .before .before .before .before .before .before .before .before .before .before .before .before .before .before .before .before .number-at .ensures;
+                tried = c .before .before .before .before .before .before .before .before .before .before .before .before .before .before .before .before .before .before .before .before .before .before .before .trial-at .ensures;
                 fragment = c .before .before .before .before .before .before .before .before .before .before .before .before .before .before .before .before .before .before .before .before .before .before .fragment-at .ensures;
                 ran = r .ensures .0;
                 stands = r .ensures .1;
@@ -137,8 +134,7 @@ take-first-spec =
     add-at
     mul-at
     mul-from
-    cast-number-at
-    number-at-requires
+    trial-at-requires
     fragment-at-requires
     run-fragment-requires
     is-multi-requires

@@ -1,3 +1,5 @@
+use Rattle.rows.specs.declared.Trial.{Trial}
+use Rattle.rows.specs.Rows.{withAnswer}
 use native.Mathlib.Omega.{arith}
 use Prim.Native.Nat.{_≤_}
 use mathlib.Core.Path.{_≡_, refl, ap, _∙_}
@@ -20,21 +22,20 @@ use Rattle.rows.proofs.run_row.Reads as run-row-reads
 use Rattle.rows.proofs.state_after.Reads as state-after-reads
 use Rattle.record.proofs.lay.Reads as lay-reads
 use Rattle.record.specs.Widths.{runWidth}
+use Rattle.rows.proofs.no_trial.Reads as no-trial-reads
+use Rattle.rows.proofs.trial_at.Reads as trial-at-reads
 
-cast-number-at : tie.Need-cast-number-at
-cast-number-at c = search needs
+mul-trial-at : tie.Need-mul-trial-at
+mul-trial-at c = search needs
 
-mul-number-at : tie.Need-mul-number-at
-mul-number-at c = search needs
-
-number-at-requires : tie.Need-number-at-requires
-number-at-requires c κs = search needs
+trial-at-requires : tie.Need-trial-at-requires
+trial-at-requires c κs = search needs
 
 continue-fragment-requires : tie.Need-continue-fragment-requires
 continue-fragment-requires c κs = search needs
 
-number-at-requires-2 : tie.Need-number-at-requires-2
-number-at-requires-2 c κs = search needs
+number-at-requires : tie.Need-number-at-requires
+number-at-requires c κs = search needs
 
 least-requires : tie.Need-least-requires
 least-requires c κs = search needs
@@ -63,11 +64,14 @@ slice-aggregate-lay c = search needs
 lay-requires : tie.Need-lay-requires
 lay-requires c κs = search needs
 
-put-answer-requires : tie.Need-put-answer-requires
-put-answer-requires c κs = omega (arith, c .before .before .before .before .before .before .before .before .before .before .before .before .before .before .before .before .before .before .before .before .before .before .before .before .before .before .before .before .pre .0 .answers)
+no-trial-requires : tie.Need-no-trial-requires
+no-trial-requires c κs = search needs
 
-add-t28 : tie.Need-add-t28
-add-t28 c = omega (arith, c .before .before .before .before .before .before .before .before .before .before .before .before .before .before .before .before .before .before .before .before .before .before .before .before .before .before .before .before .before .before .before .before .before .pre .0 .answers)
+put-answer-requires : tie.Need-put-answer-requires
+put-answer-requires c κs = omega (arith, c .before .before .before .before .before .before .before .before .before .before .before .before .before .before .before .before .before .before .before .before .before .before .before .before .before .before .before .before .before .pre .0 .answers)
+
+add-t17 : tie.Need-add-t17
+add-t17 c = omega (arith, c .before .before .before .before .before .before .before .before .before .before .before .before .before .before .before .before .before .before .before .before .before .before .before .before .before .before .before .before .before .before .before .before .before .before .pre .0 .answers)
 
 same-length : tie.Need-same-length
 same-length c = search needs
@@ -76,24 +80,24 @@ same-length-2 : tie.Need-same-length-2
 same-length-2 c = search needs
 
 same-length-3 : tie.Need-same-length-3
-same-length-3 c = search needs
+same-length-3 c = c .before .before .before .before .before .before .before .before .before .before .before .before .before .before .before .before .before .before .before .before .before .before .before .before .continue-fragment .kept .0
 
 same-length-4 : tie.Need-same-length-4
 same-length-4 c = search needs
 
 returns : tie.Need-returns
 returns c =
-    let a = c .before .before .before .before .before .before .before .before .before .before .before .before .before .before .before .before .before .before .before .before .before .before .before .before .before .before .before .before .before .before .before .before .before .args in
-    let p = c .before .before .before .before .before .before .before .before .before .before .before .before .before .before .before .before .before .before .before .before .before .before .before .before .before .before .before .before .before .before .before .before .before .pre in
-    let r = c .before .before .before .before .before .before .before .before .before .before .before .before .before .before .before .before .before .before .before .before .before .before .before .continue-fragment in
-    let w = c .before .before .before .before .before .before .before .before .before .before .before .run-row .result in
-    let l : length w ≡ runWidth = search (c .before .before .before .before .before .before .before .before .before .before .before .run-row, needs) in (
-      omega (arith, c .before .before .before .before .before .before .before .before .before .before .before .before .before .before .before .before .before .before .before .before .before .before .before .before .before .before .before .before .before .before .before .before .before .pre .0 .live),
+    let a = c .before .before .before .before .before .before .before .before .before .before .before .before .before .before .before .before .before .before .before .before .before .before .before .before .before .before .before .before .before .before .before .before .before .before .args in
+    let p = c .before .before .before .before .before .before .before .before .before .before .before .before .before .before .before .before .before .before .before .before .before .before .before .before .before .before .before .before .before .before .before .before .before .before .pre in
+    let r = c .before .before .before .before .before .before .before .before .before .before .before .before .before .before .before .before .before .before .before .before .before .before .before .before .continue-fragment in
+    let w = c .before .before .before .before .before .before .before .before .before .before .before .before .run-row .result in
+    let l : length w ≡ runWidth = search (c .before .before .before .before .before .before .before .before .before .before .before .before .run-row, needs) in (
+      omega (arith, c .before .before .before .before .before .before .before .before .before .before .before .before .before .before .before .before .before .before .before .before .before .before .before .before .before .before .before .before .before .before .before .before .before .before .pre .0 .live),
       (
-        continued (a .live .now) (a .runs .now) (a .undo .now) (a .room .now) (c .before .before .before .before .before .before .before .before .lay .last .0) (c .before .before .before .before .before .before .before .before .before .before .before .before .before .before .note-entries .last .0) (c .before .before .before .before .put-answer .last .0) (a .cells .now) (r .last .0) (a .c) _ (a .f)
-            (c .before .before .before .before .before .before .before .before .before .before .before .before .before .before .before .before .before .before .before .before .before .before .before .before .before .before .number-at .result) (c .before .before .before .before .before .before .before .before .before .before .before .before .before .before .before .before .before .before .before .number-at2 .result) (c .before .before .before .before .before .before .before .before .before .before .before .before .before .before .before .before .before .before .least .result) (c .before .before .before .before .before .before .before .before .before .before .before .before .before .before .before .before .state-after .result) (c .before .before .before .before .before .before .before .before .before .before .before .before .before .before .note-entries .result) (c .before .before .before .before .before .before .before .before .before .before .before .before .before .before .before .before .before .is-last .result) (r .result) w
-            (p .0) (p .1) (c .before .before .before .before .before .before .before .before .before .before .before .before .before .before .before .before .before .before .before .before .before .before .before .before .before .before .number-at .ensures) (r .ensures .0) (r .ensures .1) (c .before .before .before .before .before .before .before .before .before .before .before .before .before .before .before .before .before .before .before .number-at2 .ensures) (c .before .before .before .before .before .before .before .before .before .before .before .before .before .before .before .before .before .before .least .ensures) (c .before .before .before .before .before .before .before .before .before .before .before .before .before .before .before .before .before .is-last .ensures) (c .before .before .before .before .before .before .before .before .before .before .before .before .before .before .before .before .state-after .ensures) (c .before .before .before .before .before .before .before .before .before .before .before .before .before .before .note-entries .ensures .0)
-            (c .before .before .before .before .before .before .before .before .before .before .before .before .before .before .note-entries .ensures .1) (c .before .before .before .before .before .before .before .before .before .before .before .run-row .ensures) (c .before .before .before .before .before .before .before .before .lay .ensures ∙ ap (sets (a .runs .now) 0) (laid-whole w runWidth l)) (c .before .before .before .before .put-answer .ensures) refl,
+        continued (a .live .now) (a .runs .now) (a .undo .now) (a .room .now) (c .before .before .before .before .before .before .before .before .before .lay .last .0) (c .before .before .before .before .before .before .before .before .before .before .before .before .before .before .before .note-entries .last .0) (c .before .before .before .before .put-answer .last .0) (a .cells .now) (r .last .0) (a .c) _ (a .f)
+            (c .before .before .before .before .before .before .before .before .before .before .before .before .before .before .before .before .before .before .before .before .before .before .before .before .before .before .before .trial-at .result) (c .before .before .before .before .before .before .before .before .before .before .before .before .before .before .before .before .before .before .before .before .number-at .result) (c .before .before .before .before .before .before .before .before .before .before .before .before .before .before .before .before .before .before .before .least .result) (c .before .before .before .before .before .before .before .before .before .before .before .before .before .before .before .before .before .state-after .result) (c .before .before .before .before .before .before .before .before .before .before .before .before .before .before .before .note-entries .result) (c .before .before .before .before .before .before .before .before .before .before .before .before .before .before .before .before .before .before .is-last .result) (r .result) w
+            (p .0) (p .1) (c .before .before .before .before .before .before .before .before .before .before .before .before .before .before .before .before .before .before .before .before .before .before .before .before .before .before .before .trial-at .ensures) (r .ensures .0) (r .ensures .1) (c .before .before .before .before .before .before .before .before .before .before .before .before .before .before .before .before .before .before .before .before .number-at .ensures) (c .before .before .before .before .before .before .before .before .before .before .before .before .before .before .before .before .before .before .before .least .ensures) (c .before .before .before .before .before .before .before .before .before .before .before .before .before .before .before .before .before .before .is-last .ensures) (c .before .before .before .before .before .before .before .before .before .before .before .before .before .before .before .before .before .state-after .ensures) (c .before .before .before .before .before .before .before .before .before .before .before .before .before .before .before .note-entries .ensures .0)
+            (c .before .before .before .before .before .before .before .before .before .before .before .before .before .before .before .note-entries .ensures .1) (c .before .before .before .before .before .before .before .before .before .before .before .before .run-row .ensures) (c .before .before .before .before .before .before .before .before .before .lay .ensures ∙ ap (sets (a .runs .now) 0) (laid-whole w runWidth l)) (c .before .before .before .before .put-answer .ensures ∙ ap (λ (t : Trial). withAnswer (a .c .answers) (c .before .before .before .before .before .before .before .before .before .before .before .before .before .before .before .before .before .before .before .before .before .before .before .before .before .before .before .trial-at .result) t (r .result) (a .room .now)) (c .before .before .before .before .before .no-trial .ensures)) refl,
         (refl, refl),
       ),
     )
@@ -102,11 +106,10 @@ pub continue-front-spec : {M : Type 1} → statement M
 continue-front-spec =
     tie.close
     (tie.spec
-    cast-number-at
-    mul-number-at
-    number-at-requires
+    mul-trial-at
+    trial-at-requires
     continue-fragment-requires
-    number-at-requires-2
+    number-at-requires
     least-requires
     is-last-requires
     state-after-requires
@@ -115,8 +118,9 @@ continue-front-spec =
     run-row-requires
     slice-aggregate-lay
     lay-requires
+    no-trial-requires
     put-answer-requires
-    add-t28
+    add-t17
     same-length
     same-length-2
     same-length-3

@@ -15,8 +15,8 @@ use Rattle.engine.proofs.settle.release_one.Lts as lts
 use Rattle.engine.proofs.course.Course.sends.Reads as sends-reads
 use Rattle.engine.proofs.settle.mark_sent.Reads as mark-sent-reads
 use Rattle.engine.proofs.settle.put_held.Reads as put-held-reads
-use Rattle.operations.proofs.number_at.Reads as number-at-reads
 use Rattle.rows.proofs.is_multi_row.Reads as is-multi-row-reads
+use Rattle.rows.proofs.trial_at.Reads as trial-at-reads
 
 add-at : tie.Need-add-at
 add-at c = search needs
@@ -31,11 +31,8 @@ returns : tie.Need-returns
 returns c = let a = c .before .before .before .before .before .before .args in
     ((refl, omega arith), one-single (a .live .now) (a .runs .now) (a .room .now) (a .c) (a .i) (a .near) (sym (c .before .is-multi-row .ensures) ∙ not-true (c .before .is-multi-row .result) (c .if1 .taken)))
 
-cast-number-at : tie.Need-cast-number-at
-cast-number-at c = search needs
-
-number-at-requires : tie.Need-number-at-requires
-number-at-requires c κs = search needs
+trial-at-requires : tie.Need-trial-at-requires
+trial-at-requires c κs = search needs
 
 put-held-requires : tie.Need-put-held-requires
 put-held-requires c κs = search needs
@@ -50,7 +47,7 @@ returns-2 : tie.Need-returns-2
 returns-2 c = let a = c .before .before .before .before .before .before .before .before .before .before .before .before .before .before .args in
     let h = c .before .before .before .before .put-held in (
       (refl, omega arith),
-      one-empty (a .live .now) (a .runs .now) (a .room .now) (h .last .0) (a .c) (a .i) (c .before .before .before .before .before .before .before .number-at .result) (a .near) (h .result) (sym (c .before .before .before .before .before .before .before .before .before .is-multi-row .ensures) ∙ not-false (c .before .before .before .before .before .before .before .before .before .is-multi-row .result) (c .before .before .before .before .before .before .before .before .if1 .left)) (h .ensures .0) (c .if2 .taken) (h .ensures .1),
+      one-empty (a .live .now) (a .runs .now) (a .room .now) (h .last .0) (a .c) (a .i) (c .before .before .before .before .before .before .before .trial-at .result) (a .near) (h .result) (sym (c .before .before .before .before .before .before .before .before .before .is-multi-row .ensures) ∙ not-false (c .before .before .before .before .before .before .before .before .before .is-multi-row .result) (c .before .before .before .before .before .before .before .before .if1 .left)) (h .ensures .0) (c .if2 .taken) (h .ensures .1),
     )
 
 mark-sent-requires : tie.Need-mark-sent-requires
@@ -70,7 +67,7 @@ returns-3 c = let a = c .before .before .before .before .before .before .before 
     let h = c .before .before .before .before .before .before .before .before .before .put-held in
     let e = c .sends .ensures in (
       (e ∙ ap {B = Course} (λ (n : ℕ). withAnswers n (a .c)) (sym (ap (λ (x : Course). x .answers) e)), omega (arith, ap (λ (x : Course). x .answers) e, under (holdsRow (a .runs .now) (runWidth * a .i)) (h .result) (a .c .answers) (h .ensures .0))),
-      one-held (a .live .now) (a .runs .now) (a .room .now) (c .before .before .before .mark-sent .last .0) (h .last .0) (a .c) (c .sends .result) (a .i) (c .before .before .before .before .before .before .before .before .before .before .before .before .number-at .result) (a .near) (h .result) (c .before .before .before .before .before .before .before .before .before .before .before .before .before .before .before .before .before .before .before .pre .2) (sym (c .before .before .before .before .before .before .before .before .before .before .before .before .before .before .is-multi-row .ensures) ∙ not-false (c .before .before .before .before .before .before .before .before .before .before .before .before .before .before .is-multi-row .result) (c .before .before .before .before .before .before .before .before .before .before .before .before .before .if1 .left)) (c .before .before .before .before .before .before .before .before .before .before .before .before .number-at .ensures) (h .ensures .0) (h .ensures .1) (c .before .before .before .mark-sent .ensures) e,
+      one-held (a .live .now) (a .runs .now) (a .room .now) (c .before .before .before .mark-sent .last .0) (h .last .0) (a .c) (c .sends .result) (a .i) (c .before .before .before .before .before .before .before .before .before .before .before .before .trial-at .result) (a .near) (h .result) (c .before .before .before .before .before .before .before .before .before .before .before .before .before .before .before .before .before .before .before .pre .2) (sym (c .before .before .before .before .before .before .before .before .before .before .before .before .before .before .is-multi-row .ensures) ∙ not-false (c .before .before .before .before .before .before .before .before .before .before .before .before .before .before .is-multi-row .result) (c .before .before .before .before .before .before .before .before .before .before .before .before .before .if1 .left)) (c .before .before .before .before .before .before .before .before .before .before .before .before .trial-at .ensures) (h .ensures .0) (h .ensures .1) (c .before .before .before .mark-sent .ensures) e,
     )
 
 pub release-one-spec : {M : Type 1} → statement M
@@ -81,8 +78,7 @@ release-one-spec =
     mul-at
     is-multi-row-requires
     returns
-    cast-number-at
-    number-at-requires
+    trial-at-requires
     put-held-requires
     same-length
     same-length-2

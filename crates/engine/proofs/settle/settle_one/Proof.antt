@@ -9,19 +9,20 @@ use Rattle.engine.proofs.settle.settle_one.Statement.{statement}
 use Rattle.engine.proofs.settle.settle_one.Tie as tie
 use Rattle.engine.proofs.settle.settle_one.Reads as reads
 use Rattle.engine.proofs.settle.settle_one.Lts as lts
-use Rattle.operations.proofs.number_at.Reads as number-at-reads
 use Rattle.engine.proofs.settle.drop_front.Reads as drop-front-reads
 use Rattle.engine.proofs.settle.put_held.Reads as put-held-reads
 use Rattle.engine.proofs.course.Course.sends.Reads as sends-reads
+use Rattle.rows.proofs.no_trial.Reads as no-trial-reads
+use Rattle.rows.proofs.trial_at.Reads as trial-at-reads
 
-cast-number-at : tie.Need-cast-number-at
-cast-number-at c = search needs
+mul-trial-at : tie.Need-mul-trial-at
+mul-trial-at c = search needs
 
-mul-number-at : tie.Need-mul-number-at
-mul-number-at c = search needs
+trial-at-requires : tie.Need-trial-at-requires
+trial-at-requires c κs = search needs
 
-number-at-requires : tie.Need-number-at-requires
-number-at-requires c κs = search needs
+no-trial-requires : tie.Need-no-trial-requires
+no-trial-requires c κs = search needs
 
 put-held-requires : tie.Need-put-held-requires
 put-held-requires c κs = search needs
@@ -42,16 +43,16 @@ same-length-3 : tie.Need-same-length-3
 same-length-3 c = search needs
 
 returns : tie.Need-returns
-returns c = let a = c .before .before .before .before .before .before .before .before .before .before .before .before .before .before .before .before .before .before .before .args in
-    let p = c .before .before .before .before .before .before .before .before .before .before .before .before .before .before .before .before .before .before .before .pre in
+returns c = let a = c .before .before .before .before .before .before .before .before .before .before .before .before .before .before .before .before .before .before .before .before .args in
+    let p = c .before .before .before .before .before .before .before .before .before .before .before .before .before .before .before .before .before .before .before .before .pre in
     let h = c .before .before .before .before .before .before .before .before .before .before .put-held in
     let d = c .before .before .before .before .before .drop-front in (
-      settled-fair (a .live .now) (a .runs .now) (a .undo .now) (a .room .now) (d .last .0) (d .last .1 .0) (h .last .0) (a .c) (d .result) _ (c .before .before .before .before .before .before .before .before .before .before .before .before .before .number-at .result) (h .result) (p .0) (p .1) (c .before .before .before .before .before .before .before .before .before .before .before .before .before .number-at .ensures) (h .ensures .0) (h .ensures .1)
+      settled-fair (a .live .now) (a .runs .now) (a .undo .now) (a .room .now) (d .last .0) (d .last .1 .0) (h .last .0) (a .c) (d .result) _ (c .before .before .before .before .before .before .before .before .before .before .before .before .before .before .trial-at .result) (c .before .before .before .before .before .before .before .before .before .before .before .no-trial .result) (h .result) (p .0) (p .1) (c .before .before .before .before .before .before .before .before .before .before .before .before .before .before .trial-at .ensures) (h .ensures .0) (h .ensures .1) (c .before .before .before .before .before .before .before .before .before .before .before .no-trial .ensures)
           (d .ensures .0) (d .ensures .1 .0 .2) (d .ensures .1 .0 .0) (d .ensures .1 .0 .1) (c .sends .ensures),
       (
         ap (λ (x : Course). x .counts .uncommitted + 1) (c .sends .ensures) ∙ d .ensures .1 .0 .0,
         (
-          settled-one (a .live .now) (a .runs .now) (a .undo .now) (a .room .now) (d .last .0) (d .last .1 .0) (h .last .0) (a .c) (d .result) _ (c .before .before .before .before .before .before .before .before .before .before .before .before .before .number-at .result) (h .result) (p .0) (p .1) (c .before .before .before .before .before .before .before .before .before .before .before .before .before .number-at .ensures) (h .ensures .0) (h .ensures .1)
+          settled-one (a .live .now) (a .runs .now) (a .undo .now) (a .room .now) (d .last .0) (d .last .1 .0) (h .last .0) (a .c) (d .result) _ (c .before .before .before .before .before .before .before .before .before .before .before .before .before .before .trial-at .result) (c .before .before .before .before .before .before .before .before .before .before .before .no-trial .result) (h .result) (p .0) (p .1) (c .before .before .before .before .before .before .before .before .before .before .before .before .before .before .trial-at .ensures) (h .ensures .0) (h .ensures .1) (c .before .before .before .before .before .before .before .before .before .before .before .no-trial .ensures)
               (d .ensures .1 .1 .0) (c .sends .ensures),
           kept-both (a .c) (d .result) (c .sends .result) (d .ensures .1 .1 .1) (kept-at (d .result) _ (c .sends .result) (c .sends .ensures) (refl, refl)),
         ),
@@ -62,9 +63,9 @@ pub settle-one-spec : {M : Type 1} → statement M
 settle-one-spec =
     tie.close
     (tie.spec
-    cast-number-at
-    mul-number-at
-    number-at-requires
+    mul-trial-at
+    trial-at-requires
+    no-trial-requires
     put-held-requires
     drop-front-requires
     sends-requires
