@@ -2,9 +2,9 @@
 use Prim.Native.Nat.{ℕ}
 use mathlib.Core.Path.{_≡_}
 use Rattle.record.specs.declared.Record.{Record}
+use Rattle.record.specs.declared.Fresh.{Fresh}
+use Rattle.record.specs.Start.{freshOf}
 use Rattle.engine.specs.declared.Called.{Called}
-use Rattle.engine.specs.declared.Fresh.{Fresh}
-use Rattle.engine.specs.Called.{freshOf}
 
 -- the number returned and the record left by starting
 abbrev pub started : ℕ → ℕ → Record → Type 0

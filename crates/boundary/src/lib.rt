@@ -56,7 +56,7 @@ pub(crate) fn call_words(
 pub extern "C" fn harukdalis_start(r: &mut Record, cells: u32) -> u32
     ensures { λ n. ⌜ started cells n (now (r .exit)) ⌝ }
 {
-    let f = engine::start(cells);
+    let f = record::start(cells);
     *r = f.next;
     f.number
 }

@@ -24,7 +24,8 @@ use Rattle.record.specs.Words.{liveRows}
 use Rattle.record.specs.View.{fragmentAt, waitingOf, numbersFrom, memberAt, uncommittedOf, viewOf, view}
 use Rattle.record.proofs.Rows.{numbers-same, numbers-whole}
 use Rattle.record.proofs.Back.{known-of, view-pack}
-use Rattle.engine.specs.Called.{stepped, nextOf, called, freshOf}
+use Rattle.record.specs.Start.{freshOf}
+use Rattle.engine.specs.Called.{stepped, nextOf, called}
 use Rattle.carried.specs.Carried.{Words, AllWords, returned, roomOf, answerFrom, answerAt, answerOf, answersFrom, answersOf, RecordRun, onwardR, runsR, freshR, LendsR, AllLendR, CellsHoldR, SettlingOrderR, PlainRightR, NoAbortR, DependentRightR, sentInR, SeenRightR, UndisturbedRightR, RecordDemand3}
 use Rattle.rows.proofs.Rooms.{length-words}
 use Rattle.carried.proofs.Fine.{Small, Fine, rows-eight, taken-fine}

@@ -1,3 +1,4 @@
+pub mod Unique
 pub mod Fine
 pub mod Carrying
 pub mod Agreeing

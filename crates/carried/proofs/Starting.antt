@@ -14,7 +14,8 @@ use Rattle.model.proofs.Kept.{never-taken, not-started}
 use Rattle.record.specs.declared.Record.{Record}
 use Rattle.record.specs.Words.{pack}
 use Rattle.record.specs.View.{view}
-use Rattle.engine.specs.Called.{stepped, called, freshOf}
+use Rattle.record.specs.Start.{freshOf}
+use Rattle.engine.specs.Called.{stepped, called}
 use Rattle.carried.specs.Carried.{returned, RecordRun, onwardR, runsR, startedR, NotStarted}
 use Rattle.carried.proofs.Carrying.{fresh-view}
 

@@ -14,7 +14,8 @@ use Rattle.model.specs.Demand as Demand
 use Rattle.model.specs.declared.Event.{Event}
 use Rattle.record.specs.declared.Record.{Record}
 use Rattle.record.specs.View.{view, numbersFrom}
-use Rattle.engine.specs.Called.{called, cellsAfter, roomAfter, freshOf}
+use Rattle.record.specs.Start.{freshOf}
+use Rattle.engine.specs.Called.{called, cellsAfter, roomAfter}
 use Rattle.engine.specs.declared.Called.{Called}
 
 -- an event is 29 words: its row has eight places

@@ -600,13 +600,13 @@ fn decision(kind: u32, number: u32) -> Event {
 
 // The record after one call.
 fn after(r: Record, cells: &mut [u32], event: Event, room: &mut [u32]) -> Record {
-    let d = engine::call(r, cells, event, room);
+    let d = carried::call(r, cells, event, room);
     d.next
 }
 
 // Four cells, and uncommitted: 3, finished in two fragments with three entries; single 5, held.
 fn front(cells: &mut [u32], room: &mut [u32]) -> Record {
-    let fresh = engine::start(4);
+    let fresh = record::start(4);
     let three = Event {
         kind: 1,
         number: 3,
@@ -691,7 +691,7 @@ fn try_call(
     event: Event,
     room: &mut [u32],
 ) -> u32 {
-    let d = engine::call(r, cells, event, room);
+    let d = carried::call(r, cells, event, room);
     let end = trace::put_e(out, at, position, d.number);
     put_answers(out, place(end), room, d.answers)
 }
@@ -795,7 +795,7 @@ fn lent(out: &mut [u8], from: u32, r: Record) -> u32 {
 
 // No cell lent, and a record that has none; at last all that is asked for.
 fn unlent(out: &mut [u8], from: u32, r: Record) -> u32 {
-    let none = engine::start(0);
+    let none = record::start(0);
     let a = lend(out, from, 5, r, 0, 1024);
     let b = lend(out, a, 6, none.next, 0, 1024);
     let c = lend(out, b, 7, none.next, 4, 1024);
@@ -804,7 +804,7 @@ fn unlent(out: &mut [u8], from: u32, r: Record) -> u32 {
 
 // The line of a start with so many cells, and where it ends.
 fn start_with(out: &mut [u8], at: u32, position: u32, cells: u32) -> u32 {
-    let started = engine::start(cells);
+    let started = record::start(cells);
     let end = trace::put_e(out, at, position, started.number);
     place(end)
 }
@@ -819,7 +819,7 @@ fn started(out: &mut [u8], from: u32) -> u32 {
 
 // Refusal 2 with all else lent; then a record that was only started, with no cell and with the one that it has.
 fn fresh(out: &mut [u8], from: u32, r: Record) -> u32 {
-    let one = engine::start(1);
+    let one = record::start(1);
     let a = lend(out, from, 13, r, 4, 1023);
     let b = lend(out, a, 14, r, 4, 0);
     let c = lend(out, b, 15, one.next, 0, 1024);
@@ -828,9 +828,9 @@ fn fresh(out: &mut [u8], from: u32, r: Record) -> u32 {
 
 // The same with one more, with too few, and records of too many.
 fn unfit(out: &mut [u8], from: u32) -> u32 {
-    let one = engine::start(1);
-    let most = engine::start(4096);
-    let many = engine::start(4097);
+    let one = record::start(1);
+    let most = record::start(4096);
+    let many = record::start(4097);
     let a = lend(out, from, 17, one.next, 2, 1024);
     let b = lend(out, a, 18, most.next, 5, 1024);
     let c = lend(out, b, 19, many.next, 4, 1024);

@@ -13,7 +13,7 @@ use Rattle.model.specs.Operations.{Cells}
 use Rattle.model.specs.Transactions.{finished, Uncommitted, Waiting, Engine, Answer, answer, attempts, front}
 use Rattle.model.specs.Steps.{Queues, sending, arrival, arrived, joined, continued, committed, aborted, settled, again, requeued, run}
 use Rattle.model.specs.Steps as Steps
-use Rattle.model.specs.Refusals.{rows, firstOf, refusal, Request, Arrive, Commit, Abort, request, Call, live, new, isFront, sound, storable, taken}
+use Rattle.model.specs.Refusals.{Request, Arrive, Commit, Abort, request, live, new, isFront, sound, storable, taken}
 use Rattle.model.specs.declared.Event.{Event}
 use Rattle.model.specs.declared.Fragment.{Fragment}
 use Rattle.model.specs.declared.Scheme.{Scheme}
@@ -27,7 +27,7 @@ use Rattle.operations.specs.Laid.{padded}
 use Rattle.record.specs.Words.{rowWords, allRows, rowOf, liveRows}
 use Rattle.record.proofs.Rows.{lay-padded}
 use Rattle.record.proofs.Back.{known-of, length-row, length-rows, rows-append, number-back}
-use Rattle.refusals.specs.Rest.{callOf, frontIs, behindFirst}
+use Rattle.refusals.specs.Rest.{callOf, frontIs}
 use Rattle.engine.specs.declared.course.Course.{Course}
 use Rattle.engine.specs.Work.{waitingMore, Work, Left, Small, Fair, Drained, Committed, Aborted, Continued}
 use Rattle.engine.specs.Ready.{Ready, Begun}
@@ -274,12 +274,3 @@ module _ (σ : Scheme) (live₀ runs undo room : List ℕ) (cells : Cells) (c : 
 pub front-some : (n : ℕ) (l : List ℕ) (m : ℕ) → frontIs n l m ≡ true → 0 < n
 front-some zero l m h = absurd (true≢false (sym h))
 front-some (suc n) l m h = omega arith
-
--- refusal 1 stands before the others
-pub refused-sound : (e : Engine) (k : Call) → sound e ≡ true → firstOf (behindFirst (rows e k)) ≡ refusal e k
-unfolding refusal rows
-refused-sound e k h = ap {B = ℕ} (λ (b : Bool). elim (not b) [ true ↦ 1 | false ↦ firstOf (behindFirst (rows e k)) ]) (sym h)
-
-pub refused-unsound : (e : Engine) (k : Call) → sound e ≡ false → 1 ≡ refusal e k
-unfolding refusal rows
-refused-unsound e k h = ap {B = ℕ} (λ (b : Bool). elim (not b) [ true ↦ 1 | false ↦ firstOf (behindFirst (rows e k)) ]) (sym h)

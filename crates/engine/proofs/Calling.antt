@@ -1,19 +1,19 @@
 -- A call put together: what a refusal and an accepted call leave is what the contract says.
 use Prim.Native.Nat.{ℕ, zero, suc, _+_, _*_, _≤_}
 use native.Mathlib.Omega.{arith}
-use borrow.Author.Tests.{ltb-false, ne-eqb}
+use borrow.Author.Tests.{ltb-false}
 use mathlib.Core.Path.{_≡_, refl, sym, ap, _∙_, subst}
-use mathlib.Core.Bool.{Bool, true, false, _||_}
+use mathlib.Core.Bool.{Bool, true, false}
 use mathlib.Core.List.{List, [], _∷_, _++_, map}
-use lib.Dec.{eqb, ltb}
+use lib.Dec.{ltb}
 use lib.ListN.{length, length-append, length-map}
 use lib.Seq.{sets}
-use Rattle.model.specs.Limits.{leastRoom, mostCells}
+use Rattle.model.proofs.Chain.{all-left}
+use Rattle.model.specs.Limits.{leastRoom}
 use Rattle.model.specs.Operations.{Cells, pick}
 use Rattle.model.specs.Transactions.{Uncommitted, Waiting, Engine, allWords, filled}
 use Rattle.model.specs.Steps.{Queues}
 use Rattle.model.specs.Refusals.{Stepped, Request, refusal, request, taken, largestAfter, respond, step}
-use Rattle.model.specs.Refusals as Refusals
 use Rattle.model.specs.declared.Event.{Event}
 use Rattle.model.specs.declared.Scheme.{Scheme}
 use Rattle.model.proofs.Branches.{request-cases}
@@ -22,22 +22,21 @@ use Rattle.refusals.specs.Rest.{callOf}
 use Rattle.record.specs.declared.Counts.{Counts}
 use Rattle.record.specs.declared.Record.{Record}
 use Rattle.record.specs.Ends.{largestAt, largestBy}
-use Rattle.record.specs.Words.{pack, allRows, allRuns, rowOf, liveRows}
-use Rattle.record.specs.View.{numbersFrom, zeros, uncommittedOf, waitingOf, viewOf, view}
+use Rattle.record.specs.Words.{pack, allRows, rowOf, liveRows}
+use Rattle.record.specs.View.{numbersFrom, uncommittedOf, waitingOf, viewOf, view}
 use Rattle.record.proofs.Rows.{shift-padded}
-use Rattle.record.proofs.Back.{length-rows, rows-append, eights-first}
+use Rattle.record.proofs.Back.{length-rows, rows-append}
 use Rattle.operations.specs.Laid.{padded}
 use Rattle.tidy.specs.Tidied.{Canonical}
 use Rattle.engine.specs.Work.{Left}
 use Rattle.engine.specs.declared.course.Course.{Course}
-use Rattle.engine.specs.Called.{stepped, nextOf, called, Leaves, freshOf, recordBy}
+use Rattle.engine.specs.Called.{stepped, nextOf, called, Leaves, recordBy}
 use Rattle.engine.specs.Ready.{Ready}
 use Rattle.engine.specs.declared.Called.{Called}
-use Rattle.engine.specs.declared.Fresh.{Fresh}
 use Rattle.record.proofs.Viewed.{First, view-count, view-waits, view-first, view-waiting}
 use Rattle.model.specs.Parts.{All, Passed}
 use Rattle.record.specs.Fitting.{Eight}
-use Rattle.record.specs.Widths.{liveWidth, liveLength, runsLength, undoLength}
+use Rattle.record.specs.Widths.{liveWidth, liveLength}
 
 -- what a call leaves, of the step that the refusal's number k gives
 abbrev LeavesOf : Record → Stepped → Called → Cells → List ℕ → Type 0
@@ -141,25 +140,4 @@ accepted-call σ r v cells room live live′ runs undo room′ cells′ k c z l 
     long = omega (arith, length-append (l .gone) (liveRows (q .uncommitted) (q .waiting)), length-append (map rowOf (q .uncommitted)) (q .waiting), length-map (q .uncommitted) rowOf, l .work .first, l .work .uncommitted, l .work .waiting)
 
     rows : live′ ≡ padded liveLength (allRows (liveRows (q .uncommitted) (q .waiting)))
-    rows = closed live live′ (l .gone) (liveRows (q .uncommitted) (q .waiting)) (c .first) (c .first + c .counts .uncommitted + c .counts .waiting) (l .work .at-live) (eights-first (l .gone) _ (l .work .eights)) (l .work .eights) (l .work .first) long h el
-
--- Starting
-
-pub empty-packed : (n : ℕ) → _≡_ {A = Record} (record { counts = record { cells = n; largest = 0; uncommitted = 0; waiting = 0 }; live = zeros liveLength; runs = zeros runsLength; undo = zeros undoLength }) (pack (Refusals.empty n))
-unfolding pack padded allRows allRuns
-empty-packed n = refl
-
--- refused or not, by the test of the count
-pub started-by : (b : Bool) (n : ℕ) (r : Record) → (eqb n 0 || ltb mostCells n) ≡ b → r ≡ pack (Refusals.empty (pick b 0 n)) → record { number = pick b 3 0; next = r } ≡ freshOf n
-unfolding freshOf Refusals.start
-started-by b n r e er = first b er ∙ ap {B = Fresh} (λ (x : Bool). record { number = chosen x .number; next = pack (chosen x .engine) }) (sym e)
-  where
-    chosen : Bool → Refusals.Started
-    chosen x = pick x (record { number = 3; engine = Refusals.empty 0 }) (record { number = 0; engine = Refusals.empty n })
-
-    first : (x : Bool) → r ≡ pack (Refusals.empty (pick x 0 n)) → _≡_ {A = Fresh} (record { number = pick x 3 0; next = r }) (record { number = chosen x .number; next = pack (chosen x .engine) })
-    first true er = λ j. record { number = 3; next = er j }
-    first false er = λ j. record { number = 0; next = er j }
-
-pub none-or-many : (n : ℕ) (b : Bool) → (n ≡ 0 → ⊥) → ltb mostCells n ≡ b → (eqb n 0 || ltb mostCells n) ≡ b
-none-or-many n b e h = ap (λ (x : Bool). x || ltb mostCells n) (ne-eqb n 0 e) ∙ h
+    rows = closed live live′ (l .gone) (liveRows (q .uncommitted) (q .waiting)) (c .first) (c .first + c .counts .uncommitted + c .counts .waiting) (l .work .at-live) (all-left Eight (l .gone) _ (l .work .eights)) (l .work .eights) (l .work .first) long h el

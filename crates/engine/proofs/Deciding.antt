@@ -13,18 +13,18 @@ use Rattle.model.specs.Steps.{run, requeued, undone, again, stateAfter}
 use Rattle.model.specs.Steps as Steps
 use Rattle.model.specs.declared.Fragment.{Fragment}
 use Rattle.model.specs.declared.Undo.{Undo}
-use Rattle.model.proofs.Chain.{all-map, all-append}
+use Rattle.model.proofs.Chain.{all-map, all-append, all-left, all-right}
 use Rattle.model.proofs.Running.{joinedBy, run-earlier, outcome-earlier, run-few, run-numbers}
 use Rattle.operations.specs.Laid.{padded, flat, entriesOf, laid}
 use Rattle.operations.specs.declared.Ran.{Ran}
 use Rattle.record.specs.Words.{allRows, allRuns, runWords, stateWord, rowOf, liveRows}
 use Rattle.record.specs.View.{numbersFrom}
 use Rattle.record.proofs.Rows.{shift-padded, lay-padded, numbers-padded}
-use Rattle.record.proofs.Back.{eights-first, eights-rest, length-runs, length-flat, flat-append, entries-back}
+use Rattle.record.proofs.Back.{length-runs, length-flat, flat-append, entries-back}
 use Rattle.engine.specs.declared.course.Course.{Course}
 use Rattle.engine.specs.Work.{Fair, Dropped, Settled, Committed, Aborted, Continued, leftBy, requeuedAll}
 use Rattle.rows.specs.declared.Trial.{Trial}
-use Rattle.rows.specs.Rows.{trialAt, noTrial, raisedRows, withAnswer, runRow, stateWordAfter}
+use Rattle.rows.specs.Rows.{trialAt, noTrial, raisedRows, withAnswer, runRow, stateWordAfter, againRow}
 use Rattle.rows.proofs.Rooms.{answered-room, state-word}
 use Rattle.rows.proofs.Reading.{trialOf, trial-back}
 use Rattle.rows.proofs.Raised.{raised-rows}
@@ -61,13 +61,13 @@ aborted live runs undo live′ runs′ undo′ cells cells′ c c′ fair es er 
     let ahead : List Waiting = gone ++ (rowOf u ∷ []) in
     let rows : gone ++ liveRows (u ∷ us) ws ≡ ahead ++ liveRows us ws = sym (append-assoc gone (rowOf u ∷ []) (liveRows us ws)) in
     let eights : All Eight (ahead ++ liveRows us ws) = subst (All Eight) rows (w .eights) in
-    let e-ahead : All Eight ahead = eights-first ahead (liveRows us ws) eights in
-    let e-rest : All Eight (liveRows us ws) = eights-rest ahead (liveRows us ws) eights in
+    let e-ahead : All Eight ahead = all-left Eight ahead (liveRows us ws) eights in
+    let e-rest : All Eight (liveRows us ws) = all-right Eight ahead (liveRows us ws) eights in
     let at : liveWidth * length ahead ≡ liveWidth * (c .first + 1) = ap (λ (x : ℕ). liveWidth * x) (length-append gone (rowOf u ∷ []) ∙ ap (λ (x : ℕ). x + 1) (w .first)) in
     let n-us : c .counts .uncommitted - 1 ≡ length us = omega (arith, w .uncommitted) in (
       record {
         at-live = el ∙ (λ i. raisedRows ((w .at-live ∙ ap (λ (x : List Waiting). padded liveLength (allRows x)) rows) i) (liveWidth * (c .first + 1)) (n-us i))
-            ∙ raised-rows liveLength ahead us ws (liveWidth * (c .first + 1)) e-ahead (eights-first (map rowOf us) ws e-rest) few at;
+            ∙ raised-rows liveLength ahead us ws (liveWidth * (c .first + 1)) e-ahead (all-left Eight (map rowOf us) ws e-rest) few at;
         at-runs = er ∙ ap (λ (x : List ℕ). sets x 0 (numbersFrom x (runWidth * c .counts .uncommitted) (runWidth * c .counts .uncommitted))) (w .at-runs)
             ∙ emptied runsLength (allRuns (u ∷ us)) (runWidth * c .counts .uncommitted) (length-runs (u ∷ us) fits ∙ ap (λ (x : ℕ). runWidth * x) (w .uncommitted)) (omega (arith, fair .depth));
         at-undo = eu ∙ ap (λ (x : List ℕ). sets x 0 (numbersFrom x (2 * c .entries) (2 * c .entries))) (w .at-undo)
@@ -102,18 +102,18 @@ first-is : (u : Uncommitted) → getD (runWords u) 0 0 ≡ u .ran
 unfolding runWords
 first-is u = refl
 
-module _ (live runs undo room runs′ undo′ room′ : List ℕ) (cells cells′ : Cells) (c c′ : Course) (f : Fragment) (own : Trial) (ran before state entries : ℕ) (la : Bool) (r : Ran) (w : List ℕ)
-    (fair : Fair c) (some : 0 < c .counts .uncommitted) (en : own ≡ trialAt live (liveWidth * c .first)) (er : r ≡ laid (run f cells [])) (ec : cells′ ≡ run f cells (entriesOf undo 0 (c .entries)) .cells)
-    (eran : ran ≡ getD runs 0 0) (ebefore : before ≡ min ran 7) (ela : la ≡ last f) (est : state ≡ stateWordAfter la (r .place)) (een : entries ≡ pick (eqb (r .place) 0) (c .entries + r .entries) 0)
+module _ (live runs undo room runs′ undo′ room′ : List ℕ) (cells cells′ : Cells) (c c′ : Course) (f : Fragment) (own none : Trial) (entries : ℕ) (r : Ran) (fair : Fair c) (some : 0 < c .counts .uncommitted)
+    (en : own ≡ trialAt live (liveWidth * c .first)) (ez : none ≡ noTrial) (er : r ≡ laid (run f cells [])) (ec : cells′ ≡ run f cells (entriesOf undo 0 (c .entries)) .cells)
+    (een : entries ≡ pick (eqb (r .place) 0) (c .entries + r .entries) 0)
     (eu : undo′ ≡ pick (eqb (r .place) 0) (sets undo (2 * c .entries) (numbersFrom (r .undo) 0 (2 * r .entries))) (sets undo 0 (numbersFrom undo (2 * c .entries) (2 * c .entries))))
-    (ew : w ≡ runRow (before + 1) state 0 entries 0 0 (replicate 8 0)) (eruns : runs′ ≡ sets runs 0 w) (eroom : room′ ≡ withAnswer (c .answers) own noTrial r room)
+    (eruns : runs′ ≡ sets runs 0 (againRow runs f (r .place) entries)) (eroom : room′ ≡ withAnswer (c .answers) own none r room)
     (ecounts : c′ ≡ record { counts = c .counts; first = c .first; entries = entries; answers = c .answers + 1 }) where
   pub continued : Continued live runs undo room cells c f runs′ undo′ room′ cells′ c′
   unfolding laid
   continued gone u ws sent room₀ k kn few-ran eight few = (
     record {
       at-live = k .at-live;
-      at-runs = run-over [] u [] runs 0 tt kn refl (k .at-runs) v w runs′ (omega arith) run-is eruns;
+      at-runs = run-over [] u [] runs 0 tt kn refl (k .at-runs) v (againRow runs f (r .place) entries) runs′ (omega arith) run-is eruns;
       at-undo = undo-is;
       at-room = room-is;
       first = k .first ∙ sym (ap (λ (x : Course). x .first) ecounts);
@@ -179,24 +179,24 @@ module _ (live runs undo room runs′ undo′ room′ : List ℕ) (cells cells�
               ap (λ (x : List ℕ). sets x 0 (numbersFrom x (2 * c .entries) (2 * c .entries))) (k .at-undo) ∙ emptied undoLength (flat (u .undo ++ [])) (2 * c .entries) size (omega (arith, fair .entries))
               ∙ ap (λ (x : List Undo). padded undoLength (flat x)) (sym (undo-by false e))
 
-      run-is : w ≡ runWords v
-      run-is = ew ∙ again-words u f (run f cells (u .undo)) (before + 1) state entries ran-is state-is entries-is
+      run-is : againRow runs f (r .place) entries ≡ runWords v
+      run-is = again-words u f (run f cells (u .undo)) (min (getD runs 0 0) 7 + 1) (stateWordAfter (last f) (r .place)) entries ran-is state-is entries-is
         where
-          ran-is : before + 1 ≡ u .ran + 1
+          ran-is : min (getD runs 0 0) 7 + 1 ≡ u .ran + 1
           ran-is =
-              let h : ran ≡ u .ran = eran ∙ run-word [] u [] runs 0 tt kn refl (k .at-runs) 0 (omega arith) ∙ first-is u in
-              omega (arith, ebefore, h, few-ran)
+              let h : getD runs 0 0 ≡ u .ran = run-word [] u [] runs 0 tt kn refl (k .at-runs) 0 (omega arith) ∙ first-is u in
+              omega (arith, h, few-ran)
 
-          state-is : state ≡ stateWord (stateAfter f (run f cells (u .undo) .outcome))
-          state-is = est ∙ ap (stateWordAfter la) place-is ∙ state-word f (run f cells [] .outcome) la ela ∙ ap (λ (o : Outcome). stateWord (stateAfter f o)) (sym tells)
+          state-is : stateWordAfter (last f) (r .place) ≡ stateWord (stateAfter f (run f cells (u .undo) .outcome))
+          state-is = ap (stateWordAfter (last f)) place-is ∙ state-word f (run f cells [] .outcome) (last f) refl ∙ ap (λ (o : Outcome). stateWord (stateAfter f o)) (sym tells)
 
       own-is : own ≡ trialOf (rowOf u)
       own-is =
           en ∙ ap (λ (l : List ℕ). trialAt l (liveWidth * c .first)) (k .at-live)
-          ∙ trial-back liveLength gone (rowOf u) (liveRows [] ws) (liveWidth * c .first) (eights-first gone (liveRows (u ∷ []) ws) (k .eights)) (eights-rest gone (liveRows (u ∷ []) ws) (k .eights) .0) (ap (λ (x : ℕ). liveWidth * x) (k .first))
+          ∙ trial-back liveLength gone (rowOf u) (liveRows [] ws) (liveWidth * c .first) (all-left Eight gone (liveRows (u ∷ []) ws) (k .eights)) (all-right Eight gone (liveRows (u ∷ []) ws) (k .eights) .0) (ap (λ (x : ℕ). liveWidth * x) (k .first))
 
       room-is : room′ ≡ filled (sent ++ (answer (u .number) 0 (u .attempt) 0 (run f cells (u .undo) .outcome) ∷ [])) room₀
-      room-is = eroom ∙ ap (λ (t : Trial). withAnswer (c .answers) t noTrial r room) own-is
+      room-is = eroom ∙ (λ i. withAnswer (c .answers) (own-is i) (ez i) r room)
           ∙ answered-room sent (trialOf (rowOf u)) noTrial (run f cells []) r room room₀ (c .answers) er (omega (arith, run-numbers f cells, few-operations f eight)) (k .at-room) (k .answers) (omega (arith, k .enough, fair .answers, some))
           ∙ ap (λ (o : Outcome). filled (sent ++ (answer (u .number) 0 (u .attempt) 0 o ∷ [])) room₀) (sym tells)
 

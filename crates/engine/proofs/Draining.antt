@@ -1,5 +1,5 @@
 -- The drain's loop, in plain terms: what is left to drain from here, with the answers so far, is the whole.
-use Prim.Native.Nat.{ℕ, suc, _+_, _*_, _-_, _≤_, _<_}
+use Prim.Native.Nat.{ℕ, suc, _+_, _*_, _-_, _≤_, _<_, min}
 use native.Mathlib.Omega.{arith}
 use borrow.Author.Tests.{ne-eqb, eqb-true, leb-true, leb-false, lt-ltb, le-ltb}
 use mathlib.Core.Path.{_≡_, refl, sym, ap, _∙_, subst, subst₂}
@@ -8,6 +8,7 @@ use mathlib.Core.Logic.{_⊎_, inl, inr}
 use mathlib.Core.List.{List, [], _∷_, _++_, append-assoc, append-nil}
 use lib.Dec.{eqb, leb}
 use lib.ListN.{length, getD, take, length-append, length-take}
+use lib.Seq.{sets}
 use Rattle.model.specs.Limits.{depth}
 use Rattle.model.specs.Operations.{Cells, pick, operations}
 use Rattle.model.specs.Transactions.{State, Running, Finished, Failed, NoState, finished, Uncommitted, Waiting, Answer}
@@ -17,13 +18,13 @@ use Rattle.model.specs.declared.Fragment.{Fragment}
 use Rattle.model.specs.declared.Scheme.{Scheme}
 use Rattle.model.specs.declared.Scheme.the-variants.{Speculation, Blocking}
 use Rattle.model.proofs.Branches.{drain-cases}
-use Rattle.model.proofs.Chain.{all-map}
+use Rattle.model.proofs.Chain.{all-map, all-left, all-right}
 use Rattle.model.proofs.Running.{run-few}
 use Rattle.model.proofs.Keeping.{placed-sound}
 use Rattle.operations.specs.Laid.{padded, laid}
 use Rattle.operations.specs.declared.Ran.{Ran}
 use Rattle.record.specs.Words.{allRuns, runWords, stateWord}
-use Rattle.record.specs.View.{fragmentAt}
+use Rattle.record.specs.View.{fragmentAt, numbersFrom}
 use Rattle.record.proofs.Back.{known-of, run-read}
 use Rattle.engine.specs.declared.course.Course.{Course}
 use Rattle.engine.specs.Work.{Small, Work, Took, Drained, joinedBy, settledAtOnce, withAnswers}
@@ -40,6 +41,10 @@ entries-few l b f cells r ef er =
     let g : Fragment = fragmentAt l b in
     let e : r .entries ≡ length (run (fragmentAt l b) cells [] .undo) = ap (λ (x : Ran). x .entries) (er ∙ ap (λ (x : Fragment). laid (run x cells [])) ef) in
     omega (arith, run-few (fragmentAt l b) cells, length-take (g .count) (g .row))
+
+-- a run's own entries are laid whole
+pub all-laid : (undo l : List ℕ) (at n : ℕ) → n ≤ 8 → sets undo at (numbersFrom l 0 (2 * min n 8)) ≡ sets undo at (numbersFrom l 0 (2 * n))
+all-laid undo l at n h = let e : min n 8 ≡ n = omega (arith, h) in ap (λ (k : ℕ). sets undo at (numbersFrom l 0 (2 * k))) e
 
 pub small-taking : (c c′ : Course) (r : Ran) (a′ : ℕ) (ans joins : Bool) → Small c → 0 < c .counts .waiting → c .counts .uncommitted < 16 → r .entries ≤ 8 → a′ ≡ pick ans (c .answers + 1) (c .answers)
     → c′ ≡ pick joins (joinedBy (withAnswers a′ c) r) (settledAtOnce (withAnswers a′ c)) → Small c′ × (c′ .counts .waiting + 1 ≡ c .counts .waiting)
@@ -83,14 +88,6 @@ state-word Finished = refl
 state-word Failed = refl
 state-word NoState = refl
 
-all-first : (a b : List Uncommitted) → All Fit (a ++ b) → All Fit a
-all-first [] b h = tt
-all-first (x ∷ a) b h = (h .0, all-first a b (h .1))
-
-all-rest : (a b : List Uncommitted) → All Fit (a ++ b) → All Fit b
-all-rest [] b h = h
-all-rest (x ∷ a) b h = all-rest a b (h .1)
-
 run-state : (v : Uncommitted) → getD (runWords v) 1 0 ≡ stateWord (v .state)
 unfolding runWords
 run-state v = refl
@@ -125,7 +122,7 @@ may-take-back Speculation (u ∷ us) runs n k e en = ap (mayTakeRow Speculation 
     word-is : getD runs (runWidth * (suc (length us) - 1) + 1) 0 ≡ stateWord (x .tail .state)
     word-is =
         ap (λ (l : List ℕ). getD l (runWidth * (suc (length us) - 1) + 1) 0) (e ∙ ap (λ (l : List Uncommitted). padded runsLength (allRuns l)) (x .split))
-        ∙ run-read runsLength (x .ahead) (x .tail) [] (runWidth * (suc (length us) - 1)) 1 (all-first (x .ahead) (x .tail ∷ []) fit) (all-rest (x .ahead) (x .tail ∷ []) fit .0) far (omega arith)
+        ∙ run-read runsLength (x .ahead) (x .tail) [] (runWidth * (suc (length us) - 1)) 1 (all-left Fit (x .ahead) (x .tail ∷ []) fit) (all-right Fit (x .ahead) (x .tail ∷ []) fit .0) far (omega arith)
         ∙ run-state (x .tail)
 
     deep : (b : Bool) → leb 16 (suc (length us)) ≡ b → rest b ≡ mayTake Speculation (u ∷ us)

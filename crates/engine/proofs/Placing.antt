@@ -16,14 +16,14 @@ use Rattle.model.specs.declared.Fragment.{Fragment}
 use Rattle.model.specs.declared.Scheme.{Scheme}
 use Rattle.model.proofs.Taking.{may-less}
 use Rattle.model.specs.declared.Undo.{Undo}
-use Rattle.model.proofs.Chain.{all-map}
+use Rattle.model.proofs.Chain.{all-map, all-left, all-right}
 use Rattle.model.proofs.Keeping as Keeping
 use Rattle.operations.specs.Laid.{padded, flat, laid}
 use Rattle.operations.specs.declared.Ran.{Ran}
 use Rattle.record.specs.Words.{allRows, runWords, allRuns, rowOf, liveRows, heldOutcome}
 use Rattle.record.specs.View.{fragmentAt, numbersFrom}
 use Rattle.record.proofs.Rows.{lay-padded, numbers-padded}
-use Rattle.record.proofs.Back.{known-of, eights-first, eights-rest, fragment-back, length-run, length-runs, runs-append, undo-append, flat-append, length-flat}
+use Rattle.record.proofs.Back.{known-of, fragment-back, length-run, length-runs, runs-append, undo-append, flat-append, length-flat}
 use Rattle.engine.specs.declared.course.Course.{Course}
 use Rattle.engine.specs.Work.{Work, Left, joinedBy, settledAtOnce, withAnswers, Small}
 use Rattle.rows.specs.declared.Trial.{Trial}
@@ -70,16 +70,16 @@ module _ (live runs undo room : List ℕ) (cells : Cells) (c : Course) (own : Tr
   eights = subst (All Eight) whole (work .eights)
 
   eA : All Eight (gone ++ map rowOf us)
-  eA = eights-first (gone ++ map rowOf us) (w ∷ ws) eights
+  eA = all-left Eight (gone ++ map rowOf us) (w ∷ ws) eights
 
   eW : Eight w
-  eW = eights-rest (gone ++ map rowOf us) (w ∷ ws) eights .0
+  eW = all-right Eight (gone ++ map rowOf us) (w ∷ ws) eights .0
 
   eG : All Eight gone
-  eG = eights-first gone (liveRows us (w ∷ ws)) (work .eights)
+  eG = all-left Eight gone (liveRows us (w ∷ ws)) (work .eights)
 
   eL : All Eight (liveRows us (w ∷ ws))
-  eL = eights-rest gone (liveRows us (w ∷ ws)) (work .eights)
+  eL = all-right Eight gone (liveRows us (w ∷ ws)) (work .eights)
 
   at : liveWidth * length (gone ++ map rowOf us) ≡ liveWidth * (c .first + c .counts .uncommitted)
   at = ap (λ (x : ℕ). liveWidth * x) (length-append gone (map rowOf us) ∙ omega (arith, length-map us rowOf, work .first, work .uncommitted))

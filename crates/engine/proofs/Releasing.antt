@@ -14,11 +14,11 @@ use Rattle.model.specs.Operations.{pick, multi}
 use Rattle.model.specs.Transactions.{Uncommitted, Waiting, Answer, undoList, front}
 use Rattle.model.specs.Steps.{heldBy, sent, Place, settled}
 use Rattle.model.specs.Parts.{All, releasedFrom}
-use Rattle.model.proofs.Chain.{all-map, all-append}
+use Rattle.model.proofs.Chain.{all-map, all-append, all-left, all-right}
 use Rattle.model.proofs.Releasing.{settled-front, from-single, from-same, from-other}
 use Rattle.operations.specs.Laid.{padded, flat}
 use Rattle.record.specs.Words.{rowWords, allRows, allRuns, rowOf, liveRows}
-use Rattle.record.proofs.Back.{eights-first, eights-rest, row-read}
+use Rattle.record.proofs.Back.{row-read}
 use Rattle.engine.specs.declared.course.Course.{Course}
 use Rattle.engine.specs.Work.{Work, Fair, heldUnder, ReleasedOne, Fronted, withAnswers}
 use Rattle.engine.proofs.Settling.{held-room, held-count, not-held, sent-runs, holds-word}
@@ -42,12 +42,7 @@ sent-undo [] u us = refl
 sent-undo (p ∷ P) u us = ap (λ (l : List Rattle.model.specs.declared.Undo.Undo). p .undo ++ l) (sent-undo P u us)
 
 known-first : (P : List Uncommitted) (us : List Uncommitted) → All Known (P ++ us) → All Fit P
-known-first [] us h = tt
-known-first (p ∷ P) us h = (h .0 .0, known-first P us (h .1))
-
-known-rest : (P : List Uncommitted) (us : List Uncommitted) → All Known (P ++ us) → All Known us
-known-rest [] us h = h
-known-rest (p ∷ P) us h = known-rest P us (h .1)
+known-first P us h = all-map Known Fit (λ u k. k .0) P (all-left Known P us h)
 
 known-sent : (P : List Uncommitted) (u : Uncommitted) (us : List Uncommitted) → All Known (P ++ u ∷ us) → All Known (P ++ sent u ∷ us)
 known-sent [] u us h = ((omega arith, h .0 .1, refl), h .1)
@@ -71,10 +66,10 @@ module _ (live runs undo room : List ℕ) (c : Course) (gone : List Waiting) (P 
   at-live = w .at-live ∙ ap (λ (x : List Waiting). padded liveLength (allRows x)) rows
 
   word : (j : ℕ) → j < liveWidth → getD live (liveWidth * (c .first + i) + j) 0 ≡ getD (rowWords (u .number) (u .attempt) (u .first)) j 0
-  word j h = ap (λ (l : List ℕ). getD l (liveWidth * (c .first + i) + j) 0) at-live ∙ row-read liveLength ahead (rowOf u) (liveRows us ws) (liveWidth * (c .first + i)) (eights-first ahead _ eights) (eights-rest ahead _ eights .0) place j h
+  word j h = ap (λ (l : List ℕ). getD l (liveWidth * (c .first + i) + j) 0) at-live ∙ row-read liveLength ahead (rowOf u) (liveRows us ws) (liveWidth * (c .first + i)) (all-left Eight ahead _ eights) (all-right Eight ahead _ eights .0) place j h
 
   pub trial-there : trialAt live (liveWidth * (c .first + i)) ≡ trialOf (rowOf u)
-  trial-there = ap (λ (l : List ℕ). trialAt l (liveWidth * (c .first + i))) at-live ∙ trial-back liveLength ahead (rowOf u) (liveRows us ws) (liveWidth * (c .first + i)) (eights-first ahead _ eights) (eights-rest ahead _ eights .0) place
+  trial-there = ap (λ (l : List ℕ). trialAt l (liveWidth * (c .first + i))) at-live ∙ trial-back liveLength ahead (rowOf u) (liveRows us ws) (liveWidth * (c .first + i)) (all-left Eight ahead _ eights) (all-right Eight ahead _ eights .0) place
 
   pub multi-at : multiRow live (liveWidth * (c .first + i)) ≡ multi (u .first)
   unfolding rowWords multi
@@ -92,7 +87,7 @@ module _ (live runs undo room : List ℕ) (c : Course) (gone : List Waiting) (P 
     fp = known-first P (u ∷ us) k
 
     ku : Known u
-    ku = known-rest P (u ∷ us) k .0
+    ku = all-right Known P (u ∷ us) k .0
 
     pub sends : Work live runs′ undo room′ c′ gone (P ++ sent u ∷ us) ws (sent′ ++ heldUnder near u) room₀
     sends = record {
@@ -119,22 +114,17 @@ one-single live runs room c i near h undo gone P u us ws sent′ room₀ w k ei 
     (subst (λ (x : List Answer). Work live runs undo room c gone (P ++ u ∷ us) ws x room₀) (sym (append-nil sent′)) w)
 
 -- a multi that holds nothing stays as it is
-pub one-empty : (live runs room room′ : List ℕ) (c : Course) (i : ℕ) (own near : Trial) (a : ℕ) → multiRow live (liveWidth * (c .first + i)) ≡ true → a ≡ pick (holdsRow runs (runWidth * i)) (c .answers + 1) (c .answers) → a ≡ c .answers
+pub one-empty : (live runs room room′ : List ℕ) (c : Course) (i : ℕ) (own near : Trial) → multiRow live (liveWidth * (c .first + i)) ≡ true → holdsRow runs (runWidth * i) ≡ false
     → room′ ≡ pick (holdsRow runs (runWidth * i)) (sets room (answerWords * c .answers) (heldRow runs (runWidth * i) own near)) room → ReleasedOne live runs room c i near runs room′ c
-one-empty live runs room room′ c i own near a h ea same er undo gone P u us ws sent′ room₀ w k ei =
+one-empty live runs room room′ c i own near h none er undo gone P u us ws sent′ room₀ w k ei =
     let m : multi (u .first) ≡ true = sym (multi-at live runs undo room c gone P u us ws sent′ room₀ w i ei) ∙ h in
-    let none : holdsRow runs (runWidth * i) ≡ false = go (holdsRow runs (runWidth * i)) (sym ea ∙ same) in
-    let n = not-held P u us runs (runWidth * i) (known-first P (u ∷ us) k) (known-rest P (u ∷ us) k .0) (ap (λ (x : ℕ). runWidth * x) ei) (w .at-runs) near none in
+    let n = not-held P u us runs (runWidth * i) (known-first P (u ∷ us) k) (all-right Known P (u ∷ us) k .0) (ap (λ (x : ℕ). runWidth * x) ei) (w .at-runs) near none in
     let er′ : room′ ≡ room = er ∙ ap (λ (b : Bool). pick b (sets room (answerWords * c .answers) (heldRow runs (runWidth * i) own near)) room) none in
     subst (λ (b : Bool). Work live runs undo room′ c gone (P ++ pick b (sent u) u ∷ us) ws (sent′ ++ pick b (heldUnder near u) []) room₀) (sym m)
     (subst (λ (v : Uncommitted). Work live runs undo room′ c gone (P ++ v ∷ us) ws (sent′ ++ heldUnder near u) room₀) (sym (n .0))
     (subst (λ (x : List Answer). Work live runs undo room′ c gone (P ++ u ∷ us) ws (sent′ ++ x) room₀) (sym (n .1))
     (subst (λ (x : List Answer). Work live runs undo room′ c gone (P ++ u ∷ us) ws x room₀) (sym (append-nil sent′))
     (subst (λ (x : List ℕ). Work live runs undo x c gone (P ++ u ∷ us) ws sent′ room₀) (sym er′) w))))
-  where
-    go : (b : Bool) → pick b (c .answers + 1) (c .answers) ≡ c .answers → b ≡ false
-    go true e = absurd (omega arith)
-    go false e = refl
 
 pub one-held : (live runs room runs′ room′ : List ℕ) (c c′ : Course) (i : ℕ) (own near : Trial) (a : ℕ) → c .answers < 64 → multiRow live (liveWidth * (c .first + i)) ≡ true → own ≡ trialAt live (liveWidth * (c .first + i))
     → a ≡ pick (holdsRow runs (runWidth * i)) (c .answers + 1) (c .answers)
@@ -267,7 +257,3 @@ released-front live runs room runs′ room′ c c′ k ek all undo gone (u ∷ u
     subst (λ (p : Place). Work live runs′ undo room′ c′ gone (p .uncommitted) ws (sent′ ++ p .answers) r₀)
     (from-same k 0 0 u us m (eq-eqb (u .first .coordinator) k (sym ku)) ∙ ap {B = Place} (λ (x : ℕ). record { uncommitted = sent u ∷ releasedFrom x (u .number) (u .attempt) us .uncommitted; answers = heldBy u ++ releasedFrom x (u .number) (u .attempt) us .answers; settles = [] }) ku ∙ sym (settled-front u us m))
     (all undo gone (u ∷ us) ws sent′ r₀ w kn)
-
-pub under : (b : Bool) (a n : ℕ) → a ≡ pick b (n + 1) n → a ≤ n + 1
-under true a n e = omega arith
-under false a n e = omega arith

@@ -13,13 +13,13 @@ use Rattle.model.specs.Limits.{answerWords}
 use Rattle.model.specs.Operations.{Outcome, pick, multi}
 use Rattle.model.specs.Transactions.{Reply, Held, Sent, NoReply, Uncommitted, Waiting, Answer, answer, words, undoList, filled, front}
 use Rattle.model.specs.Steps.{heldBy, sent, Place, released, settled}
-use Rattle.model.proofs.Chain.{all-map}
+use Rattle.model.proofs.Chain.{all-map, all-left, all-right}
 use Rattle.operations.specs.Laid.{padded, flat}
 use Rattle.operations.proofs.Turns.{length-padded}
 use Rattle.record.specs.Words.{rowWords, allRows, stateWord, replyWord, heldOutcome, outcomeWords, runWords, allRuns, rowOf, liveRows}
 use Rattle.record.specs.View.{numbersFrom}
 use Rattle.record.proofs.Rows.{shift-padded, numbers-same, numbers-whole}
-use Rattle.record.proofs.Back.{eights-first, eights-rest, row-read, length-run, length-runs, runs-append, run-read, length-flat, flat-append}
+use Rattle.record.proofs.Back.{row-read, length-run, length-runs, runs-append, run-read, length-flat, flat-append}
 use Rattle.engine.specs.declared.course.Course.{Course}
 use Rattle.engine.specs.Work.{heldUnder, Work, Fair, Dropped, SettledOne, SettledTo, Singles, Fronted, Settled, leftBy, withAnswers}
 use Rattle.rows.specs.declared.Trial.{Trial}
@@ -180,7 +180,7 @@ module _ (live runs undo room runs′ undo′ room′ : List ℕ) (c d c′ : Co
   front-trial : (gone : List Waiting) (u : Uncommitted) (us : List Uncommitted) (ws : List Waiting) (sent : List Answer) (room₀ : List ℕ) → Work live runs undo room c gone (u ∷ us) ws sent room₀ → own ≡ trialOf (rowOf u)
   front-trial gone u us ws sent room₀ w =
       en ∙ ap (λ (l : List ℕ). trialAt l (liveWidth * c .first)) (w .at-live)
-      ∙ trial-back liveLength gone (rowOf u) (liveRows us ws) (liveWidth * c .first) (eights-first gone (liveRows (u ∷ us) ws) (w .eights)) (eights-rest gone (liveRows (u ∷ us) ws) (w .eights) .0) (ap (λ (x : ℕ). liveWidth * x) (w .first))
+      ∙ trial-back liveLength gone (rowOf u) (liveRows us ws) (liveWidth * c .first) (all-left Eight gone (liveRows (u ∷ us) ws) (w .eights)) (all-right Eight gone (liveRows (u ∷ us) ws) (w .eights) .0) (ap (λ (x : ℕ). liveWidth * x) (w .first))
 
   fits : (gone : List Waiting) (u : Uncommitted) (us : List Uncommitted) (ws : List Waiting) (sent : List Answer) (room₀ : List ℕ) → Work live runs undo room c gone (u ∷ us) ws sent room₀ → answerWords * (c .answers + 1) ≤ length room₀
   fits gone u us ws sent room₀ w = omega (arith, w .enough, fair .answers, some)
@@ -227,7 +227,7 @@ pub front-row : (live runs undo room : List ℕ) (c : Course) (gone : List Waiti
 unfolding rowWords multi
 front-row live runs undo room c gone u us ws sent room₀ w =
     ap (λ (l : List ℕ). multiRow l (liveWidth * c .first)) (w .at-live)
-    ∙ ap (λ (x : ℕ). eqb (x % 2) 1) (row-read liveLength gone (rowOf u) (liveRows us ws) (liveWidth * c .first) (eights-first gone (liveRows (u ∷ us) ws) (w .eights)) (eights-rest gone (liveRows (u ∷ us) ws) (w .eights) .0) (ap (λ (x : ℕ). liveWidth * x) (w .first)) 1 (omega arith))
+    ∙ ap (λ (x : ℕ). eqb (x % 2) 1) (row-read liveLength gone (rowOf u) (liveRows us ws) (liveWidth * c .first) (all-left Eight gone (liveRows (u ∷ us) ws) (w .eights)) (all-right Eight gone (liveRows (u ∷ us) ws) (w .eights) .0) (ap (λ (x : ℕ). liveWidth * x) (w .first)) 1 (omega arith))
 
 -- what the loop keeps
 abbrev pub Midway : List ℕ → List ℕ → List ℕ → List ℕ → Course → List ℕ → List ℕ → List ℕ → Course → Type 0

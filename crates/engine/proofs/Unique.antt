@@ -1,6 +1,6 @@
 -- Any two outcomes that the contracts of this crate's public functions allow are equal: what each returns and leaves in what was lent to it.
 use Prim.Native.Nat.{ℕ}
-use mathlib.Core.Path.{_≡_, refl, sym, _∙_}
+use mathlib.Core.Path.{_≡_, sym, _∙_}
 use mathlib.Core.List.{List}
 use Rattle.model.proofs.Unique.{Unique}
 use Rattle.engine.specs.declared.Called.{Called}
@@ -8,12 +8,6 @@ use Rattle.engine.specs.declared.LentCall.{LentCall}
 use Rattle.engine.specs.Called.{lentCall}
 use Rattle.engine.proofs.call_lent.Kinds as call-lent-kinds
 use Rattle.engine.proofs.call_lent.Reads as call-lent
-use Rattle.engine.proofs.call_by.Kinds as call-by-kinds
-use Rattle.engine.proofs.call_by.Reads as call-by
-use Rattle.engine.proofs.call.Kinds as call-kinds
-use Rattle.engine.proofs.call.Reads as call
-use Rattle.engine.proofs.start.Kinds as start-kinds
-use Rattle.engine.proofs.start.Reads as start
 
 -- what `call_lent` returns and the lent rows are together one record's parts
 parts : (all : Called) (d d′ : LentCall) (live live′ runs runs′ undo undo′ : List ℕ) → lentCall d live runs undo ≡ all → lentCall d′ live′ runs′ undo′ ≡ all
@@ -34,18 +28,3 @@ call-lent-unique κs a z z′ ws ws′ p q =
     let cells : v .1 .1 .1 .0 ≡ v′ .1 .1 .1 .0 = p .1 ∙ sym (q .1) in
     let room : v .1 .1 .1 .1 .1 .0 ≡ v′ .1 .1 .1 .1 .1 .0 = p .2 ∙ sym (q .2) in
     (x .0, λ j. (ws .0, (ws .1 .0, (x .1 j, (x .2 j, (x .3 j, (cells j, (v .1 .1 .1 .1 .0, (room j, v .1 .1 .1 .1 .1 .1)))))))))
-
-pub call-by-unique : Unique call-by-kinds.ps call-by-kinds.r call-by.Learnt
-call-by-unique κs a z z′ ws ws′ p q =
-    let cells : ws .1 .1 .0 ≡ ws′ .1 .1 .0 = cc in
-    let room : ws .1 .1 .1 .1 .0 ≡ ws′ .1 .1 .1 .1 .0 = cc in
-    (cc, λ j. (ws .0, (ws .1 .0, (cells j, (ws .1 .1 .1 .0, (room j, ws .1 .1 .1 .1 .1))))))
-
-pub call-unique : Unique call-kinds.ps call-kinds.r call.Learnt
-call-unique κs a z z′ ws ws′ p q =
-    let cells : ws .1 .0 ≡ ws′ .1 .0 = cc in
-    let room : ws .1 .1 .1 .0 ≡ ws′ .1 .1 .1 .0 = cc in
-    (cc, λ j. (ws .0, (cells j, (ws .1 .1 .0, (room j, ws .1 .1 .1 .1)))))
-
-pub start-unique : Unique start-kinds.ps start-kinds.r start.Learnt
-start-unique κs a z z′ ws ws′ p q = (cc, refl)

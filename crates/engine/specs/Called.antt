@@ -5,7 +5,6 @@ use mathlib.Core.List.{List}
 use lib.ListN.{length}
 use Rattle.model.specs.Operations.{Cells}
 use Rattle.model.specs.Refusals.{Stepped, step}
-use Rattle.model.specs.Refusals as Refusals
 use Rattle.model.specs.declared.Event.{Event}
 use Rattle.model.specs.declared.Scheme.{Scheme}
 use Rattle.refusals.specs.Rest.{callOf}
@@ -14,7 +13,6 @@ use Rattle.record.specs.declared.Record.{Record}
 use Rattle.record.specs.Words.{pack}
 use Rattle.record.specs.View.{view}
 use Rattle.engine.specs.declared.Called.{Called}
-use Rattle.engine.specs.declared.Fresh.{Fresh}
 use Rattle.engine.specs.declared.LentCall.{LentCall}
 
 unfoldable pub stepped : Scheme → Record → Event → Cells → List ℕ → Stepped
@@ -47,7 +45,3 @@ recordBy c live runs undo = record { counts = c; live = live; runs = runs; undo 
 
 abbrev pub lentCall : LentCall → List ℕ → List ℕ → List ℕ → Called
 lentCall d live runs undo = record { number = d .number; answers = d .answers; next = recordBy (d .counts) live runs undo }
-
--- starting
-unfoldable pub freshOf : ℕ → Fresh
-freshOf n = record { number = Refusals.start n .number; next = pack (Refusals.start n .engine) }

@@ -11,7 +11,7 @@ use Rattle.model.specs.Refusals.{request, taken}
 use Rattle.model.specs.declared.Event.{Event}
 use Rattle.model.specs.declared.Scheme.{Scheme}
 use Rattle.refusals.specs.Rest.{callOf}
-use Rattle.engine.specs.Work.{Small, Work, Left}
+use Rattle.engine.specs.Work.{Small, Work}
 use Rattle.engine.specs.declared.course.Course.{Course}
 use Rattle.model.specs.Parts.{Passed, Sound}
 
@@ -42,8 +42,3 @@ pub record Begun (σ : Scheme) (live runs undo room : List ℕ) (cells : Cells) 
 abbrev pub Entered : Scheme → List ℕ → List ℕ → List ℕ → List ℕ → Cells → Course → Event → List ℕ → List ℕ → List ℕ → List ℕ → Cells → Course → Type 0
 Entered σ live runs undo room cells c v live′ runs′ undo′ room′ cells′ d =
     (e : Engine) → Ready σ live runs undo room cells c v e → Begun σ live′ runs′ undo′ room′ cells′ d room (taken σ (request v) e cells)
-
--- and after it
-abbrev pub Accepted : Scheme → List ℕ → List ℕ → List ℕ → List ℕ → Cells → Course → Event → List ℕ → List ℕ → List ℕ → List ℕ → Cells → Course → Type 0
-Accepted σ live runs undo room cells c v live′ runs′ undo′ room′ cells′ d =
-    (e : Engine) → Ready σ live runs undo room cells c v e → Left live′ runs′ undo′ room′ d cells′ [] room (taken σ (request v) e cells)

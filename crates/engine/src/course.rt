@@ -1,6 +1,7 @@
 // How far a call has come: the record's counts, and what a call counts besides. By value: each step hands back the next.
 ghost use mathlib.Core.Path.{_≡_};
 ghost use Prim.Native.Nat.{_+_, _≤_, _<_};
+ghost use Rattle.model.specs.Operations.{pick};
 ghost use Rattle.engine.specs.Work.{withAnswers, joinedWith, leftBy, requeuedAll, waitingMore};
 use record::Counts;
 
@@ -14,16 +15,17 @@ pub(crate) struct Course {
 }
 
 impl Course {
-    // so many answers are sent
-    pub(crate) fn sends(self, answers: u32) -> Course
-        ensures { λ d. ⌜ d ≡ withAnswers answers self ⌝ }
+    // one answer more is sent, or none
+    pub(crate) fn sends(self, sent: bool) -> Course
+        requires { ⌜ self .answers < 64 ⌝ }
+        ensures { λ d. ⌜ d ≡ withAnswers (pick sent (self .answers + 1) (self .answers)) self ⌝ }
     {
         let counts = self.counts;
         Course {
             counts: counts,
             first: self.first,
             entries: self.entries,
-            answers: answers,
+            answers: if sent { self.answers + 1 } else { self.answers },
         }
     }
 

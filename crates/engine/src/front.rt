@@ -6,7 +6,6 @@ ghost use lib.Seq.{sets};
 ghost use Rattle.engine.specs.Work.{Kept, Fair, Continued};
 ghost use Rattle.record.specs.View.{numbersFrom};
 ghost use Rattle.model.specs.Operations.{pick};
-use crate::answers::put_answer;
 use crate::course::Course;
 use model::Fragment;
 use operations::Ran;
@@ -20,13 +19,7 @@ pub(crate) fn note_entries(undo: &mut [u32], entries: u32, r: Ran) -> u32
         (sets (now (undo .entry)) 0 (numbersFrom (now (undo .entry)) (2 * entries) (2 * entries))) ⌝ }
 {
     if r.place == 0 {
-        let own = r.undo;
-        record::lay(
-            undo,
-            record::ENTRY_WIDTH * entries,
-            &own,
-            record::ENTRY_WIDTH * r.entries,
-        );
+        rows::put_entries(undo, record::ENTRY_WIDTH * entries, r);
         entries + r.entries
     } else {
         record::shift(
@@ -57,14 +50,10 @@ pub(crate) fn continue_front(
 {
     let own = rows::trial_at(live, record::LIVE_WIDTH * c.first);
     let r = operations::continue_fragment(cells, f, undo, c.entries);
-    let ran = operations::number_at(runs, 0);
-    let before = rows::least(ran, 7);
-    let last = operations::is_last(f);
-    let state = rows::state_after(last, r.place);
     let entries = note_entries(undo, c.entries, r);
-    let w = rows::run_row(before + 1, state, 0, entries, 0, 0, [0u32; 8]);
-    record::lay(runs, 0, &w, record::RUN_WIDTH);
-    put_answer(room, c.answers, own, rows::no_trial(), r);
+    rows::run_again(runs, f, r.place, entries);
+    let none = rows::no_trial();
+    rows::put_answer(room, rows::ANSWER_WIDTH * c.answers, own, none, r);
     let counts = c.counts;
     Course {
         counts: counts,

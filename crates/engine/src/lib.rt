@@ -1,19 +1,17 @@
-// The engine of one partition: `start`, `call` by speculation, and `call_by` a scheme.
+// The engine of one partition: a call by a scheme on a record whose rows are lent, `call_lent`.
 ghost use Rattle.record.specs.Widths.{liveWidth};
 ghost use mathlib.Core.Path.{_≡_};
 ghost use Prim.Native.Nat.{ℕ, _+_, _*_, _≤_};
 ghost use lib.ListN.{length};
 ghost use lib.Seq.{sets};
 ghost use Rattle.model.specs.Refusals.{refusal};
-ghost use Rattle.model.specs.Refusals as Refusals;
 ghost use Rattle.model.specs.declared.Scheme.{Scheme};
-ghost use Rattle.model.specs.declared.Scheme.the-variants.{Speculation};
-ghost use Rattle.record.specs.Words.{rowWords, pack};
+ghost use Rattle.record.specs.Words.{rowWords};
 ghost use Rattle.record.specs.View.{viewBy};
 ghost use Rattle.refusals.specs.Rest.{callOf};
 ghost use Rattle.engine.specs.Work.{Kept, waitingMore};
-ghost use Rattle.engine.specs.Called.{called, cellsAfter, roomAfter, Leaves, freshOf, recordBy, lentCall};
-ghost use Rattle.engine.specs.Ready.{Accepts, Entered, Accepted};
+ghost use Rattle.engine.specs.Called.{Leaves, recordBy, lentCall};
+ghost use Rattle.engine.specs.Ready.{Accepts, Entered};
 use crate::course::Course;
 use model::Event;
 use model::Fragment;
@@ -22,7 +20,6 @@ use record::Counts;
 use record::Record;
 
 mod abort;
-mod answers;
 mod course;
 mod drain;
 mod front;
@@ -47,32 +44,6 @@ pub struct LentCall {
     pub number: u32,
     pub answers: u32,
     pub counts: Counts,
-}
-
-// What starting returns: the number and the record.
-pub struct Fresh {
-    pub number: u32,
-    pub next: Record,
-}
-
-// The refusal of a call, 0 for none, whatever the scheme: soundness first, then the other rows of the table.
-pub(crate) fn refused(
-    counts: Counts,
-    live: &[u32],
-    runs: &[u32],
-    undo: &[u32],
-    cells: &[u32],
-    room: &[u32],
-    event: Event,
-) -> u32
-    ensures { λ r. ⌜ ((σ : Scheme) → r ≡ refusal (viewBy counts (now (live .entry)) (now (runs .entry)) (now (undo .entry)))
-        (callOf σ event (now (cells .entry)) (now (room .entry)))) ⌝ }
-{
-    if soundness::is_sound(counts, live, runs, undo) {
-        refusals::refused_row(counts, live, runs, undo, cells, room, event)
-    } else {
-        1
-    }
 }
 
 // "Arrival, new number: join the end of the waiting queue".
@@ -140,27 +111,6 @@ pub(crate) fn enter(
     abort::abort(live, runs, undo, cells, c)
 }
 
-// An accepted event: its step, and "then drain".
-pub(crate) fn accept(
-    scheme: Scheme,
-    live: &mut [u32],
-    runs: &mut [u32],
-    undo: &mut [u32],
-    cells: &mut [u32],
-    room: &mut [u32],
-    c: Course,
-    event: Event,
-) -> Course
-    requires { ⌜ Accepts scheme (now live) (now runs) (now undo) (now room) (now cells) c event ⌝ }
-    ensures { λ d. ⌜ Accepted scheme (now (live .entry)) (now (runs .entry)) (now (undo .entry)) (now (room .entry)) (now (cells .entry)) c event
-        (now (live .exit)) (now (runs .exit)) (now (undo .exit)) (now (room .exit)) (now (cells .exit)) d ⌝ }
-    ensures { λ d. ⌜ d .first + d .counts .uncommitted + d .counts .waiting ≤ 64 ⌝ }
-    ensures { λ d. ⌜ Kept c d ⌝ }
-{
-    let d = enter(live, runs, undo, cells, room, c, event);
-    drain::drain(scheme, live, runs, undo, cells, room, d)
-}
-
 // An accepted call, carried out where the rows stand: unused places cleared, the event's step, and the rows of those that are gone closed up.
 pub(crate) fn carry_out(
     scheme: Scheme,
@@ -184,7 +134,9 @@ pub(crate) fn carry_out(
         entries: entries,
         answers: 0,
     };
-    let d = accept(scheme, live, runs, undo, cells, room, c, event);
+    let e = enter(live, runs, undo, cells, room, c, event);
+    // "then drain"
+    let d = drain::drain(scheme, live, runs, undo, cells, room, e);
     record::shift(
         live,
         record::LIVE_WIDTH * d.first,
@@ -213,7 +165,7 @@ pub fn call_lent(
         (now (cells .entry)) (now (room .entry))
         (lentCall d (now (live .exit)) (now (runs .exit)) (now (undo .exit))) (now (cells .exit)) (now (room .exit)) ⌝ }
 {
-    let number = refused(counts, live, runs, undo, cells, room, event);
+    let number = refusals::refused(counts, live, runs, undo, cells, room, event);
     if number != 0 {
         return LentCall {
             number: number,
@@ -222,87 +174,4 @@ pub fn call_lent(
         };
     }
     carry_out(scheme, counts, live, runs, undo, cells, event, room)
-}
-
-// One call by a scheme, of any record, any lent cells, any event and any lent answer room: refused with nothing touched, or carried out. The
-// record keeps no scheme: a depot may change over at any call.
-pub fn call_by(
-    scheme: Scheme,
-    r: Record,
-    cells: &mut [u32],
-    event: Event,
-    room: &mut [u32],
-) -> Called
-    ensures { λ d. ⌜ d ≡ called scheme r event (now (cells .entry)) (now (room .entry)) ⌝ }
-    ensures { λ d. ⌜ now (cells .exit) ≡ cellsAfter scheme r event (now (cells .entry)) (now (room .entry)) ⌝ }
-    ensures { λ d. ⌜ now (room .exit) ≡ roomAfter scheme r event (now (cells .entry)) (now (room .entry)) ⌝ }
-{
-    let counts = r.counts;
-    let mut live = r.live;
-    let mut runs = r.runs;
-    let mut undo = r.undo;
-    let t = call_lent(
-        scheme,
-        counts,
-        &mut live,
-        &mut runs,
-        &mut undo,
-        cells,
-        event,
-        room,
-    );
-    let counts_after = t.counts;
-    let next = Record {
-        counts: counts_after,
-        live: live,
-        runs: runs,
-        undo: undo,
-    };
-    Called {
-        number: t.number,
-        answers: t.answers,
-        next: next,
-    }
-}
-
-// The same by 01's scheme, speculation.
-pub fn call(r: Record, cells: &mut [u32], event: Event, room: &mut [u32]) -> Called
-    ensures { λ d. ⌜ d ≡ called Speculation r event (now (cells .entry)) (now (room .entry)) ⌝ }
-    ensures { λ d. ⌜ now (cells .exit) ≡ cellsAfter Speculation r event (now (cells .entry)) (now (room .entry)) ⌝ }
-    ensures { λ d. ⌜ now (room .exit) ≡ roomAfter Speculation r event (now (cells .entry)) (now (room .entry)) ⌝ }
-{
-    call_by(Scheme::Speculation, r, cells, event, room)
-}
-
-// A record of so many cells with nothing live.
-pub(crate) fn empty(count: u32) -> Record
-    ensures { λ r. ⌜ r ≡ pack (Refusals.empty count) ⌝ }
-{
-    Record {
-        counts: Counts {
-            cells: count,
-            largest: 0,
-            uncommitted: 0,
-            waiting: 0,
-        },
-        live: [0u32; record::LIVE_LENGTH],
-        runs: [0u32; record::RUNS_LENGTH],
-        undo: [0u32; record::UNDO_LENGTH],
-    }
-}
-
-// "Starting with 0 or above 4,096 cells returns 3 and a record with 0 cells".
-pub fn start(count: u32) -> Fresh
-    ensures { λ r. ⌜ r ≡ freshOf count ⌝ }
-{
-    if count == 0 || model::MOST_CELLS < count {
-        return Fresh {
-            number: 3,
-            next: empty(0),
-        };
-    }
-    Fresh {
-        number: 0,
-        next: empty(count),
-    }
 }

@@ -1,12 +1,7 @@
 // "Commit of the front": it settles, then the singles behind it; the new front is answered, and those behind it that may be.
 ghost use mathlib.Core.Path.{_≡_};
 ghost use Prim.Native.Nat.{_+_, _*_, _≤_, _<_};
-ghost use lib.Seq.{sets};
-ghost use Rattle.engine.specs.Work.{Kept, withAnswers, Fair, Dropped, SettledOne, Singles, ReleasedOne, Fronted, Settled, Committed};
-ghost use Rattle.model.specs.Limits.{answerWords};
-ghost use Rattle.record.specs.Widths.{runWidth};
-ghost use Rattle.rows.specs.Rows.{holdsRow, heldRow, sentRow};
-ghost use Rattle.model.specs.Operations.{pick};
+ghost use Rattle.engine.specs.Work.{Kept, withAnswers, Fair, Dropped, SettledOne, Singles, ReleasedOne, Fronted, Committed};
 use crate::course::Course;
 use rows::Trial;
 
@@ -34,30 +29,6 @@ pub(crate) fn drop_front(runs: &mut [u32], undo: &mut [u32], c: Course) -> Cours
     c.leaves(e)
 }
 
-// Sends the answer that run number i holds, if it holds one, with a dependence; how many answers there are then.
-pub(crate) fn put_held(
-    room: &mut [u32],
-    answers: u32,
-    runs: &[u32],
-    i: u32,
-    own: Trial,
-    near: Trial,
-) -> u32
-    requires { ⌜ answers < 64 ⌝ }
-    ensures { λ a. ⌜ a ≡ pick (holdsRow (now (runs .entry)) (runWidth * i)) (answers + 1) answers ⌝ }
-    ensures { λ a. ⌜ now (room .exit) ≡ pick (holdsRow (now (runs .entry)) (runWidth * i))
-        (sets (now (room .entry)) (answerWords * answers) (heldRow (now (runs .entry)) (runWidth * i) own near)) (now (room .entry)) ⌝ }
-{
-    let reply = operations::number_at(runs, record::RUN_WORDS * i as usize + 2);
-    if reply == 1 {
-        let w = rows::held_row(runs, i, own, near);
-        record::lay(room, rows::ANSWER_WIDTH * answers, &w, rows::ANSWER_WIDTH);
-        answers + 1
-    } else {
-        answers
-    }
-}
-
 // The first uncommitted one is answered if it holds its answer, and leaves the queue.
 pub(crate) fn settle_one(
     live: &[u32],
@@ -75,9 +46,10 @@ pub(crate) fn settle_one(
     ensures { λ d. ⌜ Kept c d ⌝ }
 {
     let own = rows::trial_at(live, record::LIVE_WIDTH * c.first);
-    let answers = put_held(room, c.answers, runs, 0, own, rows::no_trial());
+    let none = rows::no_trial();
+    let held = rows::put_held(room, rows::ANSWER_WIDTH * c.answers, runs, 0, own, none);
     let d = drop_front(runs, undo, c);
-    d.sends(answers)
+    d.sends(held)
 }
 
 // "Then singles settle and are answered from the front of the queue until a multi is first."
@@ -104,19 +76,6 @@ pub(crate) fn settle_singles(
     c
 }
 
-// Run number i says that its answer was sent.
-pub(crate) fn mark_sent(runs: &mut [u32], i: u32)
-    requires { ⌜ i ≤ 16 ⌝ }
-    ensures { λ _. ⌜ now (runs .exit) ≡ sets (now (runs .entry)) (runWidth * i) (sentRow (now (runs .entry)) (runWidth * i)) ⌝ }
-{
-    let b = record::RUN_WORDS * i as usize;
-    let ran = operations::number_at(runs, b);
-    let state = operations::number_at(runs, b + 1);
-    let entries = operations::number_at(runs, b + 3);
-    let w = rows::run_row(ran, state, 0, entries, 0, 0, [0u32; 8]);
-    record::lay(runs, record::RUN_WIDTH * i, &w, record::RUN_WIDTH);
-}
-
 // Run number i is sent what it holds, with a dependence, if it is a multi's and holds its answer; its run says so then.
 pub(crate) fn release_one(
     live: &[u32],
@@ -135,13 +94,12 @@ pub(crate) fn release_one(
         return c;
     }
     let own = rows::trial_at(live, at);
-    let answers = put_held(room, c.answers, runs, i, own, near);
     // most hold nothing
-    if answers == c.answers {
+    if !rows::put_held(room, rows::ANSWER_WIDTH * c.answers, runs, i, own, near) {
         return c;
     }
-    mark_sent(runs, i);
-    c.sends(answers)
+    rows::mark_sent(runs, record::RUN_WIDTH * i);
+    c.sends(true)
 }
 
 // "That one is the new front; if its answer was held, it is sent now with dependence 0". Then 02's L6: "held answers are looked at in queue
@@ -169,24 +127,6 @@ pub(crate) fn release(live: &[u32], runs: &mut [u32], room: &mut [u32], from: Co
     c
 }
 
-// What a commit leaves behind the front: singles settled, a new front that is answered, and what is released behind it.
-pub(crate) fn settle(
-    live: &[u32],
-    runs: &mut [u32],
-    undo: &mut [u32],
-    room: &mut [u32],
-    c: Course,
-) -> Course
-    requires { ⌜ Fair c ⌝ }
-    ensures { λ d. ⌜ d .first + d .counts .uncommitted + d .counts .waiting ≤ 64 ⌝ }
-    ensures { λ d. ⌜ Settled (now (live .entry)) (now (runs .entry)) (now (undo .entry)) (now (room .entry)) c
-        (now (runs .exit)) (now (undo .exit)) (now (room .exit)) d ⌝ }
-    ensures { λ d. ⌜ Kept c d ⌝ }
-{
-    let d = settle_singles(live, runs, undo, room, c);
-    release(live, runs, room, d)
-}
-
 // "Commit of the front: it settles. Then singles settle .."; the drain is still to come.
 pub(crate) fn commit(
     live: &[u32],
@@ -203,5 +143,6 @@ pub(crate) fn commit(
     ensures { λ d. ⌜ Kept c d ⌝ }
 {
     let d = drop_front(runs, undo, c);
-    settle(live, runs, undo, room, d)
+    let e = settle_singles(live, runs, undo, room, d);
+    release(live, runs, room, e)
 }

@@ -8,9 +8,10 @@ use lib.Seq.{sets}
 use Rattle.model.specs.declared.Scheme.{Scheme}
 use Rattle.model.specs.declared.Event.{Event}
 use Rattle.record.specs.declared.Record.{Record}
+use Rattle.record.specs.declared.Fresh.{Fresh}
+use Rattle.record.specs.Start.{freshOf}
 use Rattle.engine.specs.declared.Called.{Called}
-use Rattle.engine.specs.declared.Fresh.{Fresh}
-use Rattle.engine.specs.Called.{called, cellsAfter, roomAfter, freshOf}
+use Rattle.engine.specs.Called.{called, cellsAfter, roomAfter}
 use Rattle.trace.specs.declared.Shape.{Shape}
 use Rattle.trace.specs.declared.Shape.the-variants.{Bad, Trace}
 use Rattle.trace.specs.Format.{wordsFrom, eventAt, shapeOf}

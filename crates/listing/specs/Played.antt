@@ -6,7 +6,8 @@ use Rattle.model.specs.Operations.{Cells}
 use Rattle.model.specs.declared.Event.{Event}
 use Rattle.model.specs.declared.Scheme.{Scheme}
 use Rattle.record.specs.declared.Record.{Record}
-use Rattle.engine.specs.Called.{called, cellsAfter, roomAfter, freshOf}
+use Rattle.record.specs.Start.{freshOf}
+use Rattle.engine.specs.Called.{called, cellsAfter, roomAfter}
 use Rattle.trace.specs.Format.{wordsFrom, eventAt}
 
 -- what is kept from event to event

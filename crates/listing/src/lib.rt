@@ -162,7 +162,7 @@ pub(crate) fn put_events(
     let mut i: u32 = 0;
     while i < events {
         let event = trace::event_at(bytes, first + model::EVENT_WORDS * i);
-        let done = engine::call_by(scheme, record, cells, event, room);
+        let done = carried::call_by(scheme, record, cells, event, room);
         p = put_event(buffer, from, p, i + 1, done.number, done.answers, room);
         let next = done.next;
         record = next;
@@ -188,7 +188,7 @@ pub(crate) fn put_trace(
         (together (traceLines scheme (now (bytes .entry)) count events first (now (cells .entry)) (now (room .entry)))) ⌝ }
 {
     trace::copy_cells(bytes, count, cells);
-    let fresh = engine::start(count);
+    let fresh = record::start(count);
     let start = fresh.next;
     let p = put_events(
         scheme,

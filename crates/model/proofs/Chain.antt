@@ -106,6 +106,14 @@ pub all-append : {A : Type 0} (P : A → Type 0) (l m : List A) → All P l → 
 all-append P [] m h k = k
 all-append P (a ∷ l) m h k = (h .0, all-append P l m (h .1) k)
 
+pub all-left : {A : Type 0} (P : A → Type 0) (l m : List A) → All P (l ++ m) → All P l
+all-left P [] m h = tt
+all-left P (a ∷ l) m h = (h .0, all-left P l m (h .1))
+
+pub all-right : {A : Type 0} (P : A → Type 0) (l m : List A) → All P (l ++ m) → All P m
+all-right P [] m h = h
+all-right P (a ∷ l) m h = all-right P l m (h .1)
+
 pub all-mem : {A : Type 0} (P : A → Type 0) (l : List A) → All P l → (a : A) → List·Memᴰ a l → P a
 all-mem P [] h a m = absurd (List·Memᴰ·not-nil m)
 all-mem P (x ∷ l) h a m = go (λ k. all-mem P l (h .1) a k) (List·Memᴰ·cases-cons m)

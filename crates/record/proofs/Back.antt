@@ -11,7 +11,7 @@ use lib.ListN.{length, getD, length-append, length-map, List·getD-append}
 use lib.Seq.{getD-append-add}
 use Rattle.model.specs.Transactions.{State, Running, Finished, Failed, NoState, Reply, Held, Sent, NoReply, Uncommitted, Waiting, Engine, undoList}
 use Rattle.model.specs.Refusals.{fits, isState, isReply, sound}
-use Rattle.model.proofs.Chain.{all-append, all-map}
+use Rattle.model.proofs.Chain.{all-append, all-map, all-left, all-right}
 use Rattle.model.proofs.Sound.{sound-parts}
 use Rattle.model.proofs.Tests.{and-left, and-right}
 use Rattle.model.specs.declared.Op.{Op}
@@ -49,14 +49,6 @@ module _ {A : Type 0} (f : A → List ℕ) where
         ap (λ (l : List ℕ). getD (padded n l) (b + k) 0) (append-rows X (a ∷ Y)) ∙ block-read n (rowsOf f X) (f a) (rowsOf f Y) b k (all-length X hx ∙ e) (subst (λ (x : ℕ). k < x) (sym (wide a ha)) h)
 
 -- Transactions
-
-pub eights-first : (a b : List Waiting) → All Eight (a ++ b) → All Eight a
-eights-first [] b h = tt
-eights-first (x ∷ a) b h = (h .0, eights-first a b (h .1))
-
-pub eights-rest : (a b : List Waiting) → All Eight (a ++ b) → All Eight b
-eights-rest [] b h = h
-eights-rest (x ∷ a) b h = eights-rest a b (h .1)
 
 length-ops : (os : List Op) → length (opsWords os) ≡ opWidth * length os
 length-ops [] = omega arith
@@ -263,5 +255,5 @@ view-pack e h el =
       count = e .count;
       largest = e .largest;
       uncommitted = members-back liveLength runsLength undoLength [] [] us ws 0 0 0 tt el tt k refl refl refl i;
-      waiting = (ap (λ (x : List Waiting). waitingOf (padded liveLength (allRows (map rowOf us ++ x))) (liveWidth * length us) (length ws)) (sym (append-nil ws)) ∙ waiting-back liveLength (map rowOf us) ws [] (liveWidth * length us) (eights-first (map rowOf us) ws el) (eights-rest (map rowOf us) ws el) (ap (λ (x : ℕ). liveWidth * x) (length-map us rowOf))) i;
+      waiting = (ap (λ (x : List Waiting). waitingOf (padded liveLength (allRows (map rowOf us ++ x))) (liveWidth * length us) (length ws)) (sym (append-nil ws)) ∙ waiting-back liveLength (map rowOf us) ws [] (liveWidth * length us) (all-left Eight (map rowOf us) ws el) (all-right Eight (map rowOf us) ws el) (ap (λ (x : ℕ). liveWidth * x) (length-map us rowOf))) i;
     }

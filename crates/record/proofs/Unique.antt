@@ -23,6 +23,8 @@ use Rattle.record.proofs.Counts.requeues.Kinds as requeues-kinds
 use Rattle.record.proofs.Counts.requeues.Reads as requeues
 use Rattle.record.proofs.attempt_at.Kinds as attempt-at-kinds
 use Rattle.record.proofs.attempt_at.Reads as attempt-at
+use Rattle.record.proofs.start.Kinds as start-kinds
+use Rattle.record.proofs.start.Reads as start
 
 pub fragment-at-unique : Unique fragment-at-kinds.ps fragment-at-kinds.r fragment-at.Learnt
 fragment-at-unique κs a z z′ ws ws′ p q = (cc, refl)
@@ -62,3 +64,6 @@ requeues-unique κs a z z′ ws ws′ p q = (cc, refl)
 
 pub attempt-at-unique : Unique attempt-at-kinds.ps attempt-at-kinds.r attempt-at.Learnt
 attempt-at-unique κs a z z′ ws ws′ p q = (cc, refl)
+
+pub start-unique : Unique start-kinds.ps start-kinds.r start.Learnt
+start-unique κs a z z′ ws ws′ p q = (cc, refl)

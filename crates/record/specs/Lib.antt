@@ -2,5 +2,6 @@ pub mod Widths
 pub mod Ends
 pub mod Walk
 pub mod Words
+pub mod Start
 pub mod View
 pub mod Fitting

@@ -1,10 +1,12 @@
-// The engine's record by value, every field a 32-bit number, and what is read off its rows.
+// The engine's record by value, every field a 32-bit number, what is read off its rows and laid into them, and starting.
 ghost use Rattle.record.specs.Widths.{opsEnd, liveWidth};
 ghost use mathlib.Core.Path.{_≡_};
 ghost use Prim.Native.Nat.{_+_, _*_, _-_, _<_, _≤_, min};
 ghost use lib.ListN.{length, getD, take};
 ghost use lib.Seq.{sets};
-ghost use Rattle.record.specs.Words.{rowWords};
+ghost use Rattle.model.specs.Refusals as Refusals;
+ghost use Rattle.record.specs.Words.{rowWords, pack};
+ghost use Rattle.record.specs.Start.{freshOf};
 ghost use Rattle.record.specs.View.{opAt, fragmentAt, attemptAt, numbersFrom, zeros};
 ghost use Rattle.operations.specs.Laid.{padded};
 ghost use Rattle.record.specs.Ends.{capped, endsAt, largestAt, largestBy};
@@ -144,6 +146,12 @@ pub struct Record {
     pub live: [u32; LIVE_LENGTH],
     pub runs: [u32; RUNS_LENGTH],
     pub undo: [u32; UNDO_LENGTH],
+}
+
+// What starting returns: the number and the record.
+pub struct Fresh {
+    pub number: u32,
+    pub next: Record,
 }
 
 // The operation whose words start at b, all of them there.
@@ -364,4 +372,37 @@ pub fn clear(row: &mut [u32], n: u32)
     let len = row.len();
     let start = least(n as usize, len);
     blank(row, start, len);
+}
+
+// A record of so many cells with nothing live.
+pub(crate) fn empty(count: u32) -> Record
+    ensures { λ r. ⌜ r ≡ pack (Refusals.empty count) ⌝ }
+{
+    Record {
+        counts: Counts {
+            cells: count,
+            largest: 0,
+            uncommitted: 0,
+            waiting: 0,
+        },
+        live: [0u32; LIVE_LENGTH],
+        runs: [0u32; RUNS_LENGTH],
+        undo: [0u32; UNDO_LENGTH],
+    }
+}
+
+// "Starting with 0 or above 4,096 cells returns 3 and a record with 0 cells".
+pub fn start(count: u32) -> Fresh
+    ensures { λ r. ⌜ r ≡ freshOf count ⌝ }
+{
+    if count == 0 || model::MOST_CELLS < count {
+        return Fresh {
+            number: 3,
+            next: empty(0),
+        };
+    }
+    Fresh {
+        number: 0,
+        next: empty(count),
+    }
 }

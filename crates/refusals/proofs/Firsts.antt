@@ -8,11 +8,11 @@ use lib.Dec.{eqb}
 use lib.ListN.{getD}
 use borrow.Author.Tests.{eqb-true, eq-eqb, ne-eqb}
 use Rattle.model.specs.Operations.{pick}
-use Rattle.model.specs.Transactions.{Running, Finished, Failed, NoState, finished, failed}
-use Rattle.model.specs.Refusals.{firstOf, isIn}
+use Rattle.model.specs.Transactions.{Engine, Running, Finished, Failed, NoState, finished, failed}
+use Rattle.model.specs.Refusals.{Call, firstOf, isIn, rows, refusal, sound}
 use Rattle.record.specs.View.{stateOf}
 use Rattle.record.proofs.Walks.{walk-on, walk-end}
-use Rattle.refusals.specs.Rest.{rowNumbers}
+use Rattle.refusals.specs.Rest.{behindFirst, rowNumbers}
 use Rattle.record.specs.Widths.{liveWidth}
 
 -- rows in two parts: where the first part answers, and where it does not
@@ -36,6 +36,15 @@ first-hit (r ∷ rs) ys h = go (first-hit rs ys) (r .1) h
     go : ((firstOf rs ≡ 0 → ⊥) → firstOf (rs ++ ys) ≡ firstOf rs) → (b : Bool) → (_≡_ {A = ℕ} (elim b [ true ↦ r .0 | false ↦ firstOf rs ]) 0 → ⊥) → _≡_ {A = ℕ} (elim b [ true ↦ r .0 | false ↦ firstOf (rs ++ ys) ]) (elim b [ true ↦ r .0 | false ↦ firstOf rs ])
     go more true h = refl
     go more false h = more h
+
+-- refusal 1 stands before the others
+pub refused-sound : (e : Engine) (k : Call) → sound e ≡ true → firstOf (behindFirst (rows e k)) ≡ refusal e k
+unfolding refusal rows
+refused-sound e k h = ap {B = ℕ} (λ (b : Bool). elim (not b) [ true ↦ 1 | false ↦ firstOf (behindFirst (rows e k)) ]) (sym h)
+
+pub refused-unsound : (e : Engine) (k : Call) → sound e ≡ false → 1 ≡ refusal e k
+unfolding refusal rows
+refused-unsound e k h = ap {B = ℕ} (λ (b : Bool). elim (not b) [ true ↦ 1 | false ↦ firstOf (behindFirst (rows e k)) ]) (sym h)
 
 -- the walk: what is left from row i on is the whole
 module _ (l : List ℕ) (n k i : ℕ) (whole : Bool) (inv : isIn k (rowNumbers l (liveWidth * i) (n - i)) ≡ whole) where

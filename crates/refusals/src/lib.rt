@@ -1,11 +1,11 @@
-// Rows 2 to 14 of document 01's table of refusals, read off a record's words. Every function is total: no word has to be sound.
+// Document 01's table of refusals, read off a record's words: rows 2 to 14, and behind soundness, row 1, all of it. Every function is total: no word has to be sound.
 ghost use mathlib.Core.Path.{_≡_};
 ghost use mathlib.Core.Bool.{_&&_};
 ghost use Prim.Native.Nat.{_+_};
 ghost use lib.Dec.{leb};
 ghost use Rattle.model.specs.Limits.{mostLive};
 ghost use Rattle.model.specs.Transactions.{finished};
-ghost use Rattle.model.specs.Refusals.{rows, firstOf, formedEvent, isIn};
+ghost use Rattle.model.specs.Refusals.{rows, firstOf, refusal, formedEvent, isIn};
 ghost use Rattle.model.specs.declared.Scheme.{Scheme};
 ghost use Rattle.record.specs.View.{viewBy, stateOf};
 ghost use Rattle.refusals.specs.Rest.{callOf, behindFirst, rowNumbers, frontIs, foreign, shapeRows, knownRows, fragmentRows, decisionRows};
@@ -195,7 +195,7 @@ pub(crate) fn decision_row(commits: bool, fresh: bool, front: bool, runs: &[u32]
 
 // "Checks run in this order and the first that applies is returned": from row 2 on, 0 where none of these rows applies;
 // whatever the scheme.
-pub fn refused_row(
+pub(crate) fn refused_row(
     counts: Counts,
     live: &[u32],
     runs: &[u32],
@@ -233,4 +233,24 @@ pub fn refused_row(
         );
     }
     decision_row(kind == 2, fresh, front, runs)
+}
+
+// The refusal of a call, 0 for none, whatever the scheme: soundness first, then the other rows of the table.
+pub fn refused(
+    counts: Counts,
+    live: &[u32],
+    runs: &[u32],
+    undo: &[u32],
+    cells: &[u32],
+    room: &[u32],
+    event: Event,
+) -> u32
+    ensures { λ r. ⌜ ((σ : Scheme) → r ≡ refusal (viewBy counts (now (live .entry)) (now (runs .entry)) (now (undo .entry)))
+        (callOf σ event (now (cells .entry)) (now (room .entry)))) ⌝ }
+{
+    if soundness::is_sound(counts, live, runs, undo) {
+        refused_row(counts, live, runs, undo, cells, room, event)
+    } else {
+        1
+    }
 }

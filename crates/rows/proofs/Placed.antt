@@ -7,6 +7,7 @@ use mathlib.Core.Bool.{Bool, true, false, not, _&&_, _||_}
 use mathlib.Core.List.{List, [], _∷_, _++_, map, foldl}
 use lib.Dec.{eqb}
 use lib.ListN.{length, length-map}
+use Rattle.model.proofs.Chain.{all-left}
 use Rattle.model.specs.Operations.{pick, multi}
 use Rattle.model.specs.Transactions.{Reply, Held, Sent, Uncommitted, Waiting, Answer, answer}
 use Rattle.model.specs.Refusals.{every}
@@ -15,7 +16,7 @@ use Rattle.model.specs.Steps as Steps
 use Rattle.operations.specs.Laid.{padded}
 use Rattle.record.specs.Words.{allRows, rowOf, liveRows}
 use Rattle.record.specs.View.{waitingOf}
-use Rattle.record.proofs.Back.{eights-first, waiting-back}
+use Rattle.record.proofs.Back.{waiting-back}
 use Rattle.rows.specs.declared.Trial.{Trial}
 use Rattle.rows.specs.Rows.{oneRows, nearRows, answeredNow, joinsQueue}
 use Rattle.rows.proofs.Reading.{sameOne, trialOf, nearOne, one-rows, near-rows}
@@ -84,7 +85,7 @@ near-list d (u ∷ us) = go (λ x. near-list x us) (multi (u .first))
 
 module _ (n : ℕ) (ws A : List Waiting) (us : List Uncommitted) (b : ℕ) (ea : All Eight A) (el : All Eight (liveRows us ws)) (eb : liveWidth * length A ≡ b) where
   rows : waitingOf (padded n (allRows (A ++ liveRows us ws))) b (length us) ≡ map rowOf us
-  rows = ap (waitingOf (padded n (allRows (A ++ liveRows us ws))) b) (sym (length-map us rowOf)) ∙ waiting-back n A (map rowOf us) ws b ea (eights-first (map rowOf us) ws el) eb
+  rows = ap (waitingOf (padded n (allRows (A ++ liveRows us ws))) b) (sym (length-map us rowOf)) ∙ waiting-back n A (map rowOf us) ws b ea (all-left Eight (map rowOf us) ws el) eb
 
   pub one-back : (k : ℕ) → oneRows (padded n (allRows (A ++ liveRows us ws))) b (length us) k ≡ oneCoordinator k us
   one-back k = one-rows (padded n (allRows (A ++ liveRows us ws))) b (length us) k ∙ ap (every (sameOne k)) rows ∙ one-list k us

@@ -7,6 +7,7 @@ use mathlib.Core.Bool.{Bool, true, false, _&&_}
 use mathlib.Core.List.{List, [], _∷_, _++_, foldl}
 use lib.Dec.{eqb}
 use lib.ListN.{length, getD}
+use lib.Seq.{sets}
 use Rattle.model.specs.Operations.{pick, multi}
 use Rattle.model.specs.Transactions.{Waiting}
 use Rattle.model.specs.Refusals.{every}
@@ -85,3 +86,6 @@ rows-start b n = (omega arith, omega arith)
 -- a row that is laid whole
 pub laid-whole : (w : List ℕ) (n : ℕ) → length w ≡ n → numbersFrom w 0 n ≡ w
 laid-whole w n e = ap (numbersFrom w 0) (sym e) ∙ numbers-whole w
+
+pub laid-row : (row row′ w v : List ℕ) (at n : ℕ) → row′ ≡ sets row at (numbersFrom w 0 n) → length w ≡ n → w ≡ v → row′ ≡ sets row at v
+laid-row row row′ w v at n e l h = e ∙ ap (sets row at) (laid-whole w n l ∙ h)

@@ -1,30 +1,10 @@
 -- Any two outcomes that the contracts of this crate's public functions allow are equal: what each returns and leaves in what was lent to it.
 use mathlib.Core.Path.{_≡_, refl}
 use Rattle.model.proofs.Unique.{Unique}
-use Rattle.rows.proofs.answer_row.Kinds as answer-row-kinds
-use Rattle.rows.proofs.answer_row.Reads as answer-row
-use Rattle.rows.proofs.run_row.Kinds as run-row-kinds
-use Rattle.rows.proofs.run_row.Reads as run-row
-use Rattle.rows.proofs.state_after.Kinds as state-after-kinds
-use Rattle.rows.proofs.state_after.Reads as state-after
-use Rattle.rows.proofs.begun_row.Kinds as begun-row-kinds
-use Rattle.rows.proofs.begun_row.Reads as begun-row
 use Rattle.rows.proofs.is_multi_row.Kinds as is-multi-row-kinds
 use Rattle.rows.proofs.is_multi_row.Reads as is-multi-row
-use Rattle.rows.proofs.one_coordinator.Kinds as one-coordinator-kinds
-use Rattle.rows.proofs.one_coordinator.Reads as one-coordinator
-use Rattle.rows.proofs.nearest_multi.Kinds as nearest-multi-kinds
-use Rattle.rows.proofs.nearest_multi.Reads as nearest-multi
-use Rattle.rows.proofs.is_answered.Kinds as is-answered-kinds
-use Rattle.rows.proofs.is_answered.Reads as is-answered
-use Rattle.rows.proofs.is_joining.Kinds as is-joining-kinds
-use Rattle.rows.proofs.is_joining.Reads as is-joining
-use Rattle.rows.proofs.blocks.Kinds as blocks-kinds
-use Rattle.rows.proofs.blocks.Reads as blocks
 use Rattle.rows.proofs.may_take.Kinds as may-take-kinds
 use Rattle.rows.proofs.may_take.Reads as may-take
-use Rattle.rows.proofs.held_row.Kinds as held-row-kinds
-use Rattle.rows.proofs.held_row.Reads as held-row
 use Rattle.rows.proofs.least.Kinds as least-kinds
 use Rattle.rows.proofs.least.Reads as least
 use Rattle.rows.proofs.same_coordinator.Kinds as same-coordinator-kinds
@@ -37,42 +17,28 @@ use Rattle.rows.proofs.no_trial.Kinds as no-trial-kinds
 use Rattle.rows.proofs.no_trial.Reads as no-trial
 use Rattle.rows.proofs.raise_attempts.Kinds as raise-attempts-kinds
 use Rattle.rows.proofs.raise_attempts.Reads as raise-attempts
-
-pub answer-row-unique : Unique answer-row-kinds.ps answer-row-kinds.r answer-row.Learnt
-answer-row-unique κs a z z′ ws ws′ p q = (cc, refl)
-
-pub run-row-unique : Unique run-row-kinds.ps run-row-kinds.r run-row.Learnt
-run-row-unique κs a z z′ ws ws′ p q = (cc, refl)
-
-pub state-after-unique : Unique state-after-kinds.ps state-after-kinds.r state-after.Learnt
-state-after-unique κs a z z′ ws ws′ p q = (cc, refl)
-
-pub begun-row-unique : Unique begun-row-kinds.ps begun-row-kinds.r begun-row.Learnt
-begun-row-unique κs a z z′ ws ws′ p q = (cc, refl)
+use Rattle.rows.proofs.place_ran.Kinds as place-ran-kinds
+use Rattle.rows.proofs.place_ran.Reads as place-ran
+use Rattle.rows.proofs.put_answer.Kinds as put-answer-kinds
+use Rattle.rows.proofs.put_answer.Reads as put-answer
+use Rattle.rows.proofs.put_answer_if.Kinds as put-answer-if-kinds
+use Rattle.rows.proofs.put_answer_if.Reads as put-answer-if
+use Rattle.rows.proofs.put_held.Kinds as put-held-kinds
+use Rattle.rows.proofs.put_held.Reads as put-held
+use Rattle.rows.proofs.mark_sent.Kinds as mark-sent-kinds
+use Rattle.rows.proofs.mark_sent.Reads as mark-sent
+use Rattle.rows.proofs.run_again.Kinds as run-again-kinds
+use Rattle.rows.proofs.run_again.Reads as run-again
+use Rattle.rows.proofs.put_run.Kinds as put-run-kinds
+use Rattle.rows.proofs.put_run.Reads as put-run
+use Rattle.rows.proofs.put_entries.Kinds as put-entries-kinds
+use Rattle.rows.proofs.put_entries.Reads as put-entries
 
 pub is-multi-row-unique : Unique is-multi-row-kinds.ps is-multi-row-kinds.r is-multi-row.Learnt
 is-multi-row-unique κs a z z′ ws ws′ p q = (cc, refl)
 
-pub one-coordinator-unique : Unique one-coordinator-kinds.ps one-coordinator-kinds.r one-coordinator.Learnt
-one-coordinator-unique κs a z z′ ws ws′ p q = (cc, refl)
-
-pub nearest-multi-unique : Unique nearest-multi-kinds.ps nearest-multi-kinds.r nearest-multi.Learnt
-nearest-multi-unique κs a z z′ ws ws′ p q = (cc, refl)
-
-pub is-answered-unique : Unique is-answered-kinds.ps is-answered-kinds.r is-answered.Learnt
-is-answered-unique κs a z z′ ws ws′ p q = (cc, refl)
-
-pub is-joining-unique : Unique is-joining-kinds.ps is-joining-kinds.r is-joining.Learnt
-is-joining-unique κs a z z′ ws ws′ p q = (cc, refl)
-
-pub blocks-unique : Unique blocks-kinds.ps blocks-kinds.r blocks.Learnt
-blocks-unique κs a z z′ ws ws′ p q = (cc, refl)
-
 pub may-take-unique : Unique may-take-kinds.ps may-take-kinds.r may-take.Learnt
 may-take-unique κs a z z′ ws ws′ p q = (cc, refl)
-
-pub held-row-unique : Unique held-row-kinds.ps held-row-kinds.r held-row.Learnt
-held-row-unique κs a z z′ ws ws′ p q = (cc, refl)
 
 pub least-unique : Unique least-kinds.ps least-kinds.r least.Learnt
 least-unique κs a z z′ ws ws′ p q = (cc, refl)
@@ -91,5 +57,43 @@ no-trial-unique κs a z z′ ws ws′ p q = (cc, refl)
 
 pub raise-attempts-unique : Unique raise-attempts-kinds.ps raise-attempts-kinds.r raise-attempts.Learnt
 raise-attempts-unique κs a z z′ ws ws′ p q =
+    let b : ws .0 ≡ ws′ .0 = cc in
+    (refl, λ j. (b j, ws .1))
+
+pub place-ran-unique : Unique place-ran-kinds.ps place-ran-kinds.r place-ran.Learnt
+place-ran-unique κs a z z′ ws ws′ p q = (cc, refl)
+
+pub put-answer-unique : Unique put-answer-kinds.ps put-answer-kinds.r put-answer.Learnt
+put-answer-unique κs a z z′ ws ws′ p q =
+    let b : ws .0 ≡ ws′ .0 = cc in
+    (refl, λ j. (b j, ws .1))
+
+pub put-answer-if-unique : Unique put-answer-if-kinds.ps put-answer-if-kinds.r put-answer-if.Learnt
+put-answer-if-unique κs a z z′ ws ws′ p q =
+    let b : ws .1 .0 ≡ ws′ .1 .0 = cc in
+    (refl, λ j. (ws .0, (b j, ws .1 .1)))
+
+pub put-held-unique : Unique put-held-kinds.ps put-held-kinds.r put-held.Learnt
+put-held-unique κs a z z′ ws ws′ p q =
+    let b : ws .0 ≡ ws′ .0 = cc in
+    (cc, λ j. (b j, ws .1))
+
+pub mark-sent-unique : Unique mark-sent-kinds.ps mark-sent-kinds.r mark-sent.Learnt
+mark-sent-unique κs a z z′ ws ws′ p q =
+    let b : ws .0 ≡ ws′ .0 = cc in
+    (refl, λ j. (b j, ws .1))
+
+pub run-again-unique : Unique run-again-kinds.ps run-again-kinds.r run-again.Learnt
+run-again-unique κs a z z′ ws ws′ p q =
+    let b : ws .0 ≡ ws′ .0 = cc in
+    (refl, λ j. (b j, ws .1))
+
+pub put-run-unique : Unique put-run-kinds.ps put-run-kinds.r put-run.Learnt
+put-run-unique κs a z z′ ws ws′ p q =
+    let b : ws .0 ≡ ws′ .0 = cc in
+    (refl, λ j. (b j, ws .1))
+
+pub put-entries-unique : Unique put-entries-kinds.ps put-entries-kinds.r put-entries.Learnt
+put-entries-unique κs a z z′ ws ws′ p q =
     let b : ws .0 ≡ ws′ .0 = cc in
     (refl, λ j. (b j, ws .1))

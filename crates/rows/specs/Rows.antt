@@ -1,17 +1,19 @@
 -- What is read off one row and what is laid in one: the words of an answer and of a run, and of the rows of live transactions.
-use Prim.Native.Nat.{ℕ, _+_, _*_, _-_, _%_}
+use Prim.Native.Nat.{ℕ, _+_, _*_, _-_, _%_, min}
 use mathlib.Core.Bool.{Bool, true, false, not, _&&_, _||_}
 use mathlib.Core.List.{List, [], _∷_, _++_, foldl}
 use lib.Dec.{leb, eqb}
 use lib.ListN.{getD, replicate, set}
 use lib.Seq.{sets}
 use Rattle.model.specs.Limits.{answerWords}
-use Rattle.model.specs.Operations.{pick}
+use Rattle.model.specs.Operations.{pick, multi, last}
 use Rattle.model.specs.Refusals.{every}
 use Rattle.model.specs.declared.Scheme.{Scheme}
 use Rattle.model.specs.declared.Scheme.the-variants.{Speculation, Blocking}
 use Rattle.operations.specs.declared.Ran.{Ran}
+use Rattle.model.specs.declared.Fragment.{Fragment}
 use Rattle.rows.specs.declared.Trial.{Trial}
+use Rattle.rows.specs.declared.Placement.{Placement}
 use Rattle.record.specs.Walk.{places}
 use Rattle.record.specs.Ends.{capped}
 use Rattle.record.specs.View.{attemptAt, numbersFrom}
@@ -91,6 +93,14 @@ raisedRow l b = set l (b + 28) (capped (attemptAt l b + 1))
 
 unfoldable pub raisedRows : List ℕ → ℕ → ℕ → List ℕ
 raisedRows l b n = foldl raisedRow l (places b liveWidth n)
+
+-- where the drain places fragment f behind n uncommitted ones, whose rows start at b
+abbrev pub placementRow : List ℕ → ℕ → ℕ → Fragment → Placement
+placementRow l b n f = record { sent = answeredNow n (multi f) (oneRows l b n (f .coordinator)); joins = joinsQueue n (multi f); near = nearRows noTrial l b n }
+
+-- the front's run after one more fragment
+abbrev pub againRow : List ℕ → Fragment → ℕ → ℕ → List ℕ
+againRow runs f place entries = runRow (min (getD runs 0 0) 7 + 1) (stateWordAfter (last f) place) 0 entries 0 0 (replicate 8 0)
 
 -- one answer more in the room
 abbrev pub withAnswer : ℕ → Trial → Trial → Ran → List ℕ → List ℕ

@@ -2,7 +2,11 @@
 ghost use mathlib.Core.Path.{_≡_};
 ghost use Prim.Native.Nat.{_*_, _≤_, min};
 ghost use Rattle.record.specs.Widths.{runWidth};
-ghost use Rattle.rows.specs.Rows.{raisedRow, raisedRows, trialAt, noTrial, answerRow, runRow, stateWordAfter, begunRow, sameRow, nearRow, oneRows, nearRows, answeredNow, joinsQueue, blocking, mayTakeRow, heldRow, multiRow};
+ghost use Rattle.record.specs.View.{numbersFrom};
+ghost use Rattle.rows.specs.Rows.{placementRow, raisedRow, raisedRows, trialAt, noTrial, answerRow, runRow, stateWordAfter, begunRow, sameRow, nearRow, oneRows, nearRows, answeredNow, joinsQueue, blocking, mayTakeRow, holdsRow, heldRow, sentRow, againRow, multiRow};
+ghost use lib.Seq.{sets};
+ghost use Rattle.model.specs.Operations.{pick};
+use model::Fragment;
 use model::Scheme;
 use operations::Ran;
 
@@ -46,7 +50,7 @@ pub fn trial_at(live: &[u32], at: u32) -> Trial
 }
 
 // The words of an answer of `own` with a dependence on `near`.
-pub fn answer_row(
+pub(crate) fn answer_row(
     own: Trial,
     near: Trial,
     place: u32,
@@ -76,7 +80,7 @@ pub fn answer_row(
 }
 
 // The words of a run.
-pub fn run_row(
+pub(crate) fn run_row(
     ran: u32,
     state: u32,
     reply: u32,
@@ -108,7 +112,7 @@ pub fn run_row(
 }
 
 // The word of the state after a fragment: "finished locally when its last fragment has run or when it has failed".
-pub fn state_after(last: bool, place: u32) -> u32
+pub(crate) fn state_after(last: bool, place: u32) -> u32
     ensures { λ r. ⌜ r ≡ stateWordAfter last place ⌝ }
 {
     if place == 0 {
@@ -119,7 +123,7 @@ pub fn state_after(last: bool, place: u32) -> u32
 }
 
 // The run of one that ran its first fragment.
-pub fn begun_row(held: bool, last: bool, r: Ran) -> [u32; record::RUN_WORDS]
+pub(crate) fn begun_row(held: bool, last: bool, r: Ran) -> [u32; record::RUN_WORDS]
     ensures { λ w. ⌜ w ≡ begunRow held last r ⌝ }
 {
     let state = state_after(last, r.place);
@@ -168,7 +172,7 @@ pub fn same_coordinator(live: &[u32], at: u32, k: u32) -> bool
 }
 
 // "all uncommitted multis .. have one coordinator (singles do not count)": k, over n rows of the live row from place b on.
-pub fn one_coordinator(live: &[u32], b: u32, n: u32, k: u32) -> bool
+pub(crate) fn one_coordinator(live: &[u32], b: u32, n: u32, k: u32) -> bool
     ensures { λ r. ⌜ r ≡ oneRows (now (live .entry)) b n k ⌝ }
 {
     let mut i: u32 = 0;
@@ -201,7 +205,7 @@ pub fn nearer(live: &[u32], at: u32, d: Trial) -> Trial
 }
 
 // "the nearest multi ahead of it": the last multi of n rows, none where there is none.
-pub fn nearest_multi(live: &[u32], b: u32, n: u32) -> Trial
+pub(crate) fn nearest_multi(live: &[u32], b: u32, n: u32) -> Trial
     ensures { λ r. ⌜ r ≡ nearRows noTrial (now (live .entry)) b n ⌝ }
 {
     let mut d = no_trial();
@@ -236,7 +240,7 @@ pub fn raise_attempts(live: &mut [u32], b: u32, n: u32)
 }
 
 // Is the one that ran answered now: with nothing uncommitted, or a multi with one coordinator.
-pub fn is_answered(uncommitted: u32, multi: bool, one: bool) -> bool
+pub(crate) fn is_answered(uncommitted: u32, multi: bool, one: bool) -> bool
     ensures { λ r. ⌜ r ≡ answeredNow uncommitted multi one ⌝ }
 {
     if uncommitted == 0 {
@@ -247,14 +251,35 @@ pub fn is_answered(uncommitted: u32, multi: bool, one: bool) -> bool
 }
 
 // Does it join the uncommitted ones: all but a single with nothing uncommitted.
-pub fn is_joining(uncommitted: u32, multi: bool) -> bool
+pub(crate) fn is_joining(uncommitted: u32, multi: bool) -> bool
     ensures { λ r. ⌜ r ≡ joinsQueue uncommitted multi ⌝ }
 {
     if uncommitted == 0 { multi } else { true }
 }
 
+// Where the drain places one that ran: is it answered now, does it join the uncommitted ones, and the nearest multi ahead of it.
+pub struct Placement {
+    pub sent: bool,
+    pub joins: bool,
+    pub near: Trial,
+}
+
+// The same for fragment f, behind n uncommitted ones whose rows start at place b.
+pub fn place_ran(live: &[u32], b: u32, n: u32, f: Fragment) -> Placement
+    ensures { λ p. ⌜ p ≡ placementRow (now (live .entry)) b n f ⌝ }
+{
+    let multi = operations::is_multi(f);
+    let one = one_coordinator(live, b, n, f.coordinator);
+    let near = nearest_multi(live, b, n);
+    Placement {
+        sent: is_answered(n, multi, one),
+        joins: is_joining(n, multi),
+        near: near,
+    }
+}
+
 // Does nothing run behind an uncommitted one?
-pub fn blocks(scheme: Scheme) -> bool
+pub(crate) fn blocks(scheme: Scheme) -> bool
     ensures { λ r. ⌜ r ≡ blocking scheme ⌝ }
 {
     match scheme {
@@ -284,7 +309,7 @@ pub fn may_take(scheme: Scheme, runs: &[u32], uncommitted: u32) -> bool
 }
 
 // The words of the answer of `own` that run number i holds, with a dependence on `near`.
-pub fn held_row(runs: &[u32], i: u32, own: Trial, near: Trial) -> [u32; model::ANSWER_WORDS]
+pub(crate) fn held_row(runs: &[u32], i: u32, own: Trial, near: Trial) -> [u32; model::ANSWER_WORDS]
     ensures { λ w. ⌜ w ≡ heldRow (now (runs .entry)) (runWidth * i) own near ⌝ }
 {
     let b = record::RUN_WORDS * i as usize;
@@ -299,6 +324,80 @@ pub fn held_row(runs: &[u32], i: u32, own: Trial, near: Trial) -> [u32; model::A
     let n6 = operations::number_at(runs, b + 12);
     let n7 = operations::number_at(runs, b + 13);
     answer_row(own, near, place, count, [n0, n1, n2, n3, n4, n5, n6, n7])
+}
+
+// Lays an answer of a run into the room, from a place on.
+pub fn put_answer(room: &mut [u32], at: u32, own: Trial, near: Trial, r: Ran)
+    ensures { λ _. ⌜ now (room .exit) ≡ sets (now (room .entry)) at (answerRow own near (r .place) (r .count) (r .numbers)) ⌝ }
+{
+    let numbers = r.numbers;
+    let w = answer_row(own, near, r.place, r.count, numbers);
+    record::lay(room, at, &w, ANSWER_WIDTH);
+}
+
+// The same if it is sent now.
+pub fn put_answer_if(sent: bool, room: &mut [u32], at: u32, own: Trial, near: Trial, r: Ran)
+    ensures { λ _. ⌜ now (room .exit)
+        ≡ pick sent (sets (now (room .entry)) at (answerRow own near (r .place) (r .count) (r .numbers))) (now (room .entry)) ⌝ }
+{
+    if sent {
+        put_answer(room, at, own, near, r);
+    }
+}
+
+// Lays the answer that run number i holds into the room, from a place on, with a dependence; whether it holds one.
+pub fn put_held(room: &mut [u32], at: u32, runs: &[u32], i: u32, own: Trial, near: Trial) -> bool
+    ensures { λ held. ⌜ held ≡ holdsRow (now (runs .entry)) (runWidth * i) ⌝ }
+    ensures { λ _. ⌜ now (room .exit) ≡ pick (holdsRow (now (runs .entry)) (runWidth * i))
+        (sets (now (room .entry)) at (heldRow (now (runs .entry)) (runWidth * i) own near)) (now (room .entry)) ⌝ }
+{
+    let reply = operations::number_at(runs, record::RUN_WORDS * i as usize + 2);
+    if reply == 1 {
+        let w = held_row(runs, i, own, near);
+        record::lay(room, at, &w, ANSWER_WIDTH);
+        true
+    } else {
+        false
+    }
+}
+
+// Lays the run of one that ran its first fragment, from a place on.
+pub fn put_run(runs: &mut [u32], at: u32, held: bool, last: bool, r: Ran)
+    ensures { λ _. ⌜ now (runs .exit) ≡ sets (now (runs .entry)) at (begunRow held last r) ⌝ }
+{
+    let w = begun_row(held, last, r);
+    record::lay(runs, at, &w, record::RUN_WIDTH);
+}
+
+// Lays the undo entries of a run, from a place on: it has at most one for each operation.
+pub fn put_entries(undo: &mut [u32], at: u32, r: Ran)
+    ensures { λ _. ⌜ now (undo .exit) ≡ sets (now (undo .entry)) at (numbersFrom (r .undo) 0 (2 * min (r .entries) 8)) ⌝ }
+{
+    let own = r.undo;
+    record::lay(undo, at, &own, record::ENTRY_WIDTH * least(r.entries, 8));
+}
+
+// The run at a place says that its answer was sent.
+pub fn mark_sent(runs: &mut [u32], at: u32)
+    ensures { λ _. ⌜ now (runs .exit) ≡ sets (now (runs .entry)) at (sentRow (now (runs .entry)) at) ⌝ }
+{
+    let b = at as usize;
+    let ran = operations::number_at(runs, b);
+    let state = operations::number_at(runs, b + 1);
+    let entries = operations::number_at(runs, b + 3);
+    let w = run_row(ran, state, 0, entries, 0, 0, [0u32; 8]);
+    record::lay(runs, at, &w, record::RUN_WIDTH);
+}
+
+// The run of the front after one more fragment, answered at once.
+pub fn run_again(runs: &mut [u32], f: Fragment, place: u32, entries: u32)
+    ensures { λ _. ⌜ now (runs .exit) ≡ sets (now (runs .entry)) 0 (againRow (now (runs .entry)) f place entries) ⌝ }
+{
+    let ran = operations::number_at(runs, 0);
+    let before = least(ran, 7);
+    let state = state_after(operations::is_last(f), place);
+    let w = run_row(before + 1, state, 0, entries, 0, 0, [0u32; 8]);
+    record::lay(runs, 0, &w, record::RUN_WIDTH);
 }
 
 pub fn least(a: u32, b: u32) -> u32

@@ -6,7 +6,7 @@ use Rattle.engine.proofs.call_lent.Statement.{statement}
 use Rattle.engine.proofs.call_lent.Tie as tie
 use Rattle.engine.proofs.call_lent.Reads as reads
 use Rattle.engine.proofs.call_lent.Lts as lts
-use Rattle.engine.proofs.refused.Reads as refused-reads
+use Rattle.refusals.proofs.refused.Reads as refused-reads
 use Rattle.engine.proofs.carry_out.Reads as carry-out-reads
 
 refused-requires : tie.Need-refused-requires

@@ -1,4 +1,4 @@
-use mathlib.Core.Path.{_≡_}
+use mathlib.Core.Path.{_≡_, _∙_}
 use borrow.Author.Tests.{not-false}
 use Rattle.model.specs.Refusals.{refusal, sound}
 use Rattle.model.proofs.Passing.{passed}
@@ -7,15 +7,17 @@ use Rattle.record.specs.View.{view}
 use Rattle.operations.proofs.Turns.{unmapped}
 use Rattle.engine.specs.Called.{recordBy}
 use Rattle.engine.proofs.Calling.{ready, accepted-call}
+use Rattle.engine.proofs.Accepting.{drained-left}
 use borrow.Author.Needs.{needs}
 use Rattle.engine.proofs.carry_out.Statement.{statement}
 use Rattle.engine.proofs.carry_out.Tie as tie
 use Rattle.engine.proofs.carry_out.Reads as reads
 use Rattle.engine.proofs.carry_out.Lts as lts
-use Rattle.engine.proofs.accept.Reads as accept-reads
 use Rattle.record.proofs.shift.Reads as shift-reads
 use Rattle.tidy.proofs.tidy.Reads as tidy-reads
 use Rattle.record.proofs.Counts.accepts.Reads as accepts-reads
+use Rattle.engine.proofs.drain.drain.Reads as drain-reads
+use Rattle.engine.proofs.enter.Reads as enter-reads
 
 tidy-requires : tie.Need-tidy-requires
 tidy-requires c κs = search needs
@@ -23,16 +25,25 @@ tidy-requires c κs = search needs
 accepts-requires : tie.Need-accepts-requires
 accepts-requires c κs = search needs
 
-accept-requires : tie.Need-accept-requires
-accept-requires c κs = let a = c .before .before .before .before .before .before .before .before .before .before .before .before .args in
+enter-requires : tie.Need-enter-requires
+enter-requires c κs = let a = c .before .before .before .before .before .before .before .before .before .before .before .before .args in
     let r = recordBy (a .counts) (a .live .now) (a .runs .now) (a .undo .now) in
     let t = c .before .before .before .before .before .before .tidy in
     let z : refusal (view r) (callOf (a .scheme) (a .event) (a .cells .now) (a .room .now)) ≡ 0 = c .before .before .before .before .before .before .before .before .before .before .before .before .pre in (
-      view r,
-      ready (a .scheme) r (a .event) (a .cells .now) (a .room .now) (t .result) _ (c .before .before .before .before .before .accepts .result) (t .last .1 .0) (t .last .1 .1 .0) (t .last .1 .1 .1 .0) z
-          (t .ensures (search needs) (search needs) (search needs) (not-false (sound (view r)) (passed (view r) (callOf (a .scheme) (a .event) (a .cells .now) (a .room .now)) z .one)))
-          (search (unmapped, c .before .before .before .before .before .before .before .before .before .before .before .before .good .1 .1 .1 .1 .1 .1 .0 .1)) (c .before .before .before .before .before .accepts .ensures),
+      a .scheme,
+      (
+        view r,
+        ready (a .scheme) r (a .event) (a .cells .now) (a .room .now) (t .result) _ (c .before .before .before .before .before .accepts .result) (t .last .1 .0) (t .last .1 .1 .0) (t .last .1 .1 .1 .0) z
+            (t .ensures (search needs) (search needs) (search needs) (not-false (sound (view r)) (passed (view r) (callOf (a .scheme) (a .event) (a .cells .now) (a .room .now)) z .one)))
+            (search (unmapped, c .before .before .before .before .before .before .before .before .before .before .before .before .good .1 .1 .1 .1 .1 .1 .0 .1)) (c .before .before .before .before .before .accepts .ensures),
+      ),
     )
+
+drain-requires : tie.Need-drain-requires
+unfolding enter-requires
+drain-requires c κs = let s = c .before .before .before .before .before .before .before .before .before .before .enter in
+    let ok = enter-requires (c .before .before .before .before .before .before .before .before .before .before .before) (s .lifetimes) in
+    s .ensures .0 (ok .0) (ok .1 .0) (ok .1 .1) .small
 
 mul-shift : tie.Need-mul-shift
 mul-shift c = search needs
@@ -50,19 +61,22 @@ shift-requires : tie.Need-shift-requires
 shift-requires c κs = search needs
 
 same-length : tie.Need-same-length
-same-length c = search needs
+same-length c = c .before .before .before .before .before .before .before .before .before .before .drain .kept .1 .1 .1 .1 .0 ∙ c .before .before .before .before .before .before .before .before .before .before .before .before .before .before .before .before .before .before .before .before .before .enter .kept .1 .1 .1 .0
 
 same-length-2 : tie.Need-same-length-2
-same-length-2 c = search needs
+same-length-2 c = c .before .before .before .before .before .before .before .before .before .before .drain .kept .1 .1 .1 .1 .1 .0 ∙ c .before .before .before .before .before .before .before .before .before .before .before .before .before .before .before .before .before .before .before .before .before .enter .kept .1 .1 .1 .1 .0
 
 returns : tie.Need-returns
-unfolding accept-requires
-returns c = let a = c .before .before .before .before .before .before .before .before .before .before .before .before .before .before .before .before .before .before .before .before .before .before .before .args in
+unfolding enter-requires
+returns c = let a = c .before .before .before .before .before .before .before .before .before .before .before .before .before .before .before .before .before .before .before .before .before .before .before .before .before .before .before .before .before .before .before .before .before .before .args in
     let r = recordBy (a .counts) (a .live .now) (a .runs .now) (a .undo .now) in
-    let d = c .before .before .before .before .before .before .before .before .before .before .accept in
-    let ok = accept-requires (c .before .before .before .before .before .before .before .before .before .before .before) (d .lifetimes) in
-    accepted-call (a .scheme) r (a .event) (a .cells .now) (a .room .now) (d .last .1 .0) (c .before .shift .last .0) (d .last .1 .1 .0) (d .last .1 .1 .1 .0) (d .last .1 .1 .1 .1 .1 .0) (d .last .1 .1 .1 .1 .0) (c .before .before .before .before .before .before .before .before .before .before .before .before .before .before .before .before .accepts .result) (d .result)
-    (c .before .before .before .before .before .before .before .before .before .before .before .before .before .before .before .before .before .before .before .before .before .before .before .pre) (d .ensures .0 (view r) (ok .1)) (d .ensures .1 .0) (c .before .shift .ensures) (c .before .before .before .before .before .before .before .before .before .before .before .before .before .before .before .before .accepts .ensures) (d .ensures .1 .1 .0) (d .ensures .1 .1 .1)
+    let s = c .before .before .before .before .before .before .before .before .before .before .before .before .before .before .before .before .before .before .before .before .before .enter in
+    let d = c .before .before .before .before .before .before .before .before .before .before .drain in
+    let ok = enter-requires (c .before .before .before .before .before .before .before .before .before .before .before .before .before .before .before .before .before .before .before .before .before .before) (s .lifetimes) in
+    accepted-call (a .scheme) r (a .event) (a .cells .now) (a .room .now) (s .last .0) (c .before .shift .last .0) (d .last .1 .1 .0) (d .last .1 .1 .1 .0) (d .last .1 .1 .1 .1 .1 .0) (d .last .1 .1 .1 .1 .0) (c .before .before .before .before .before .before .before .before .before .before .before .before .before .before .before .before .before .before .before .before .before .before .before .before .before .before .before .accepts .result) (d .result)
+    (c .before .before .before .before .before .before .before .before .before .before .before .before .before .before .before .before .before .before .before .before .before .before .before .before .before .before .before .before .before .before .before .before .before .before .pre)
+    (drained-left (a .scheme) (s .last .0) (s .last .1 .0) (s .last .1 .1 .0) (s .last .1 .1 .1 .1 .0) (d .last .1 .1 .0) (d .last .1 .1 .1 .0) (d .last .1 .1 .1 .1 .1 .0) (s .last .1 .1 .1 .0) (d .last .1 .1 .1 .1 .0) (s .result) (d .result) (a .room .now) _ (s .ensures .0 (a .scheme) (view r) (ok .1 .1)) (d .ensures .1 .0))
+    (d .ensures .0 .live) (c .before .shift .ensures) (c .before .before .before .before .before .before .before .before .before .before .before .before .before .before .before .before .before .before .before .before .before .before .before .before .before .before .before .accepts .ensures) (d .ensures .1 .1 .0 ∙ s .ensures .1 .0) (d .ensures .1 .1 .1 ∙ s .ensures .1 .1)
 
 pub carry-out-spec : {M : Type 1} → statement M
 carry-out-spec =
@@ -70,7 +84,8 @@ carry-out-spec =
     (tie.spec
     tidy-requires
     accepts-requires
-    accept-requires
+    enter-requires
+    drain-requires
     mul-shift
     add-shift
     add-shift-2

@@ -12,7 +12,7 @@ use Rattle.listing.proofs.put_events.Statement.{statement}
 use Rattle.listing.proofs.put_events.Tie as tie
 use Rattle.listing.proofs.put_events.Reads as reads
 use Rattle.listing.proofs.put_events.Lts as lts
-use Rattle.engine.proofs.call_by.Reads as call-by-reads
+use Rattle.carried.proofs.call_by.Reads as call-by-reads
 use Rattle.listing.proofs.put_event.Reads as put-event-reads
 use Rattle.trace.proofs.event_at.Reads as event-at-reads
 

@@ -7,7 +7,7 @@ use Rattle.listing.proofs.put_trace.Statement.{statement}
 use Rattle.listing.proofs.put_trace.Tie as tie
 use Rattle.listing.proofs.put_trace.Reads as reads
 use Rattle.listing.proofs.put_trace.Lts as lts
-use Rattle.engine.proofs.start.Reads as start-reads
+use Rattle.record.proofs.start.Reads as start-reads
 use Rattle.listing.proofs.put_cells.Reads as put-cells-reads
 use Rattle.listing.proofs.put_events.Reads as put-events-reads
 use Rattle.trace.proofs.copy_cells.Reads as copy-cells-reads

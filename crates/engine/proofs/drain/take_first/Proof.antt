@@ -1,4 +1,9 @@
-use Prim.Native.Nat.{ℕ, _*_, _≤_, _<_}
+use Rattle.model.specs.Operations.{multi}
+use Rattle.rows.specs.declared.Placement.{Placement}
+use Rattle.rows.specs.Rows.{oneRows}
+use Rattle.record.specs.Widths.{liveWidth}
+use mathlib.Core.Path.{refl}
+use Prim.Native.Nat.{ℕ, _+_, _*_, _≤_, _<_}
 use mathlib.Core.Path.{sym, ap, _∙_, subst}
 use mathlib.Core.Bool.{not}
 use mathlib.Core.List.{List}
@@ -21,24 +26,18 @@ use Rattle.engine.proofs.drain.take_first.Lts as lts
 use Rattle.operations.proofs.is_last.Reads as is-last-reads
 use Rattle.operations.proofs.is_multi.Reads as is-multi-reads
 use Rattle.operations.proofs.run_fragment.Reads as run-fragment-reads
-use Rattle.engine.proofs.drain.answer_if.Reads as answer-if-reads
-use Rattle.rows.proofs.is_answered.Reads as is-answered-reads
-use Rattle.rows.proofs.is_joining.Reads as is-joining-reads
-use Rattle.engine.proofs.drain.join_if.Reads as join-if-reads
-use Rattle.rows.proofs.nearest_multi.Reads as nearest-multi-reads
-use Rattle.rows.proofs.one_coordinator.Reads as one-coordinator-reads
+use Rattle.engine.proofs.drain.join.Reads as join-reads
 use Rattle.record.proofs.fragment_at.Reads as fragment-at-reads
 use Rattle.engine.proofs.course.Course.sends.Reads as sends-reads
 use Rattle.rows.proofs.trial_at.Reads as trial-at-reads
+use Rattle.rows.proofs.place_ran.Reads as place-ran-reads
+use Rattle.rows.proofs.put_answer_if.Reads as put-answer-if-reads
 
 add-at : tie.Need-add-at
 add-at c = search needs
 
 mul-at : tie.Need-mul-at
 mul-at c = search needs
-
-mul-from : tie.Need-mul-from
-mul-from c = search needs
 
 trial-at-requires : tie.Need-trial-at-requires
 trial-at-requires c κs = search needs
@@ -49,34 +48,28 @@ fragment-at-requires c κs = search needs
 run-fragment-requires : tie.Need-run-fragment-requires
 run-fragment-requires c κs = search needs
 
-is-multi-requires : tie.Need-is-multi-requires
-is-multi-requires c κs = search needs
+mul-place-ran : tie.Need-mul-place-ran
+mul-place-ran c = omega (arith, c .before .before .before .before .before .before .before .before .before .before .before .before .before .pre .0 .live)
+
+place-ran-requires : tie.Need-place-ran-requires
+place-ran-requires c κs = search needs
+
+mul-put-answer-if : tie.Need-mul-put-answer-if
+mul-put-answer-if c = omega (arith, c .before .before .before .before .before .before .before .before .before .before .before .before .before .before .before .before .before .pre .0 .answers)
+
+put-answer-if-requires : tie.Need-put-answer-if-requires
+put-answer-if-requires c κs = search needs
 
 is-last-requires : tie.Need-is-last-requires
 is-last-requires c κs = search needs
 
-one-coordinator-requires : tie.Need-one-coordinator-requires
-one-coordinator-requires c κs = search needs
-
-nearest-multi-requires : tie.Need-nearest-multi-requires
-nearest-multi-requires c κs = search needs
-
-is-answered-requires : tie.Need-is-answered-requires
-is-answered-requires c κs = search needs
-
-is-joining-requires : tie.Need-is-joining-requires
-is-joining-requires c κs = search needs
-
-answer-if-requires : tie.Need-answer-if-requires
-answer-if-requires c κs = omega (arith, c .before .before .before .before .before .before .before .before .before .before .before .before .before .before .before .before .before .before .before .before .pre .0 .answers, c .before .before .before .before .before .before .before .before .before .before .before .before .before .before .before .before .before .before .before .before .pre .1)
-
 sends-requires : tie.Need-sends-requires
-sends-requires c κs = search needs
+sends-requires c κs = omega (arith, c .before .before .before .before .before .before .before .before .before .before .before .before .before .before .before .before .before .before .before .before .before .before .before .pre .0 .answers, c .before .before .before .before .before .before .before .before .before .before .before .before .before .before .before .before .before .before .before .before .before .before .before .pre .1)
 
-join-if-requires : tie.Need-join-if-requires
-join-if-requires c κs = let p = c .before .before .before .before .before .before .before .before .before .before .before .before .before .before .before .before .before .before .before .before .before .before .before .before .before .before .pre in
-    let few : c .before .before .before .before .before .before .before .before .before .before .before .before .before .before .before .run-fragment .result .entries ≤ 8 = entries-few (c .before .before .before .before .before .before .before .before .before .before .before .before .before .before .before .before .before .before .before .before .before .before .before .before .before .before .args .live .now) _ (c .before .before .before .before .before .before .before .before .before .before .before .before .before .before .before .before .before .fragment-at .result) (c .before .before .before .before .before .before .before .before .before .before .before .before .before .before .before .before .before .before .before .before .before .before .before .before .before .before .args .cells .now) (c .before .before .before .before .before .before .before .before .before .before .before .before .before .before .before .run-fragment .result) (c .before .before .before .before .before .before .before .before .before .before .before .before .before .before .before .before .before .fragment-at .ensures) (c .before .before .before .before .before .before .before .before .before .before .before .before .before .before .before .run-fragment .ensures .0) in
-    subst (λ (d : Course). (d .first ≤ 64) × (d .entries ≤ 184) × (0 < d .counts .waiting) × (d .counts .uncommitted < 16) × (c .before .before .before .before .before .before .before .before .before .before .before .before .before .before .before .run-fragment .result .entries ≤ 8)) (sym (c .sends .ensures)) (omega (arith, p .0 .live, p .0 .entries, p .1, few))
+join-requires : tie.Need-join-requires
+join-requires c κs = let p = c .before .before .before .before .before .before .before .before .before .before .before .before .before .before .before .before .before .before .before .before .before .before .before .before .before .pre in
+    let few : c .before .before .before .before .before .before .before .before .before .before .before .before .before .before .before .run-fragment .result .entries ≤ 8 = entries-few (c .before .before .before .before .before .before .before .before .before .before .before .before .before .before .before .before .before .before .before .before .before .before .before .before .before .args .live .now) _ (c .before .before .before .before .before .before .before .before .before .before .before .before .before .before .before .before .before .fragment-at .result) (c .before .before .before .before .before .before .before .before .before .before .before .before .before .before .before .before .before .before .before .before .before .before .before .before .before .args .cells .now) (c .before .before .before .before .before .before .before .before .before .before .before .before .before .before .before .run-fragment .result) (c .before .before .before .before .before .before .before .before .before .before .before .before .before .before .before .before .before .fragment-at .ensures) (c .before .before .before .before .before .before .before .before .before .before .before .before .before .before .before .run-fragment .ensures .0) in
+    subst (λ (d : Course). (d .first ≤ 64) × (d .entries ≤ 184) × (0 < d .counts .waiting) × (d .counts .uncommitted < 16) × (c .before .before .before .before .before .before .before .before .before .before .before .before .before .before .before .run-fragment .result .entries ≤ 8)) (sym (c .before .sends .ensures)) (omega (arith, p .0 .live, p .0 .entries, p .1, few))
 
 same-length : tie.Need-same-length
 same-length c = search needs
@@ -91,38 +84,40 @@ same-length-4 : tie.Need-same-length-4
 same-length-4 c = search needs
 
 returns : tie.Need-returns
-returns c = let p = c .before .before .before .before .before .before .before .before .before .before .before .before .before .before .before .before .before .before .before .before .before .before .before .before .before .before .before .before .before .before .before .pre in
-    let a = c .before .before .before .before .before .before .before .before .before .before .before .before .before .before .before .before .before .before .before .before .before .before .before .before .before .before .before .before .before .before .before .args in
+returns c = let p = c .before .before .before .before .before .before .before .before .before .before .before .before .before .before .before .before .before .before .before .before .before .before .before .before .before .before .before .before .before .before .pre in
+    let a = c .before .before .before .before .before .before .before .before .before .before .before .before .before .before .before .before .before .before .before .before .before .before .before .before .before .before .before .before .before .before .args in
     let r = c .before .before .before .before .before .before .before .before .before .before .before .before .before .before .before .before .before .before .before .before .run-fragment in
     let few : r .result .entries ≤ 8 = entries-few (a .live .now) _ (c .before .before .before .before .before .before .before .before .before .before .before .before .before .before .before .before .before .before .before .before .before .before .fragment-at .result) (a .cells .now) (r .result) (c .before .before .before .before .before .before .before .before .before .before .before .before .before .before .before .before .before .before .before .before .before .before .fragment-at .ensures) (r .ensures .0) in
-    let j = c .before .before .before .before .join-if in
-    let moved = j .ensures .0 ∙ ap {B = Course} (λ (x : Course). pick (c .before .before .before .before .before .before .before .before .before .before .before .before .is-joining .result) (joinedBy x (r .result)) (settledAtOnce x)) (c .before .before .before .before .before .sends .ensures) in
-    let s = small-taking (a .c) (j .result) (r .result) (c .before .before .before .before .before .before .before .before .before .before .answer-if .result) (c .before .before .before .before .before .before .before .before .before .before .before .before .before .is-answered .result) (c .before .before .before .before .before .before .before .before .before .before .before .before .is-joining .result) (p .0) (p .1 .0) (p .1 .1) few (c .before .before .before .before .before .before .before .before .before .before .answer-if .ensures .0) moved in (
+    let j = c .before .before .before .before .join in
+    let place = c .before .before .before .before .before .before .before .before .before .before .before .before .before .before .before .before .place-ran .ensures in
+    let answers = pick (c .before .before .before .before .before .before .before .before .before .before .before .before .before .before .before .before .place-ran .result .sent) (a .c .answers + 1) (a .c .answers) in
+    let moved = j .ensures .0 ∙ ap {B = Course} (λ (x : Course). pick (c .before .before .before .before .before .before .before .before .before .before .before .before .before .before .before .before .place-ran .result .joins) (joinedBy x (r .result)) (settledAtOnce x)) (c .before .before .before .before .before .before .sends .ensures) in
+    let s = small-taking (a .c) (j .result) (r .result) answers (c .before .before .before .before .before .before .before .before .before .before .before .before .before .before .before .before .place-ran .result .sent) (c .before .before .before .before .before .before .before .before .before .before .before .before .before .before .before .before .place-ran .result .joins) (p .0) (p .1 .0) (p .1 .1) few refl moved in (
       s .0,
       (
         s .1,
         (
           λ gone us w ws sent room₀ wk ct top sd tk.
-              take-first-left (a .live .now) (a .runs .now) (a .undo .now) (a .room .now) (a .cells .now) (a .c) (c .before .before .before .before .before .before .before .before .before .before .before .before .before .before .before .before .before .before .before .before .before .before .before .trial-at .result) (c .before .before .before .before .before .before .before .before .before .before .before .before .before .before .before .before .before .before .before .before .before .before .fragment-at .result) (r .result) (c .before .before .before .before .before .before .before .before .before .before .before .before .before .before .before .before .before .is-multi .result) (c .before .before .before .before .before .before .before .before .before .before .before .before .before .before .before .before .is-last .result)
-              (c .before .before .before .before .before .before .before .before .before .before .before .before .before .before .before .one-coordinator .result) (c .before .before .before .before .before .before .before .before .before .before .before .before .before .is-answered .result) (c .before .before .before .before .before .before .before .before .before .before .before .before .is-joining .result) (c .before .before .before .before .before .before .before .before .before .before .before .before .before .before .nearest-multi .result) (c .before .before .before .before .before .before .before .before .before .before .answer-if .result) (j .last .1 .0) (j .last .1 .1 .0) (c .before .before .before .before .before .before .before .before .before .before .answer-if .last .1 .0) (r .last .0) (j .result)
+              take-first-left (a .live .now) (a .runs .now) (a .undo .now) (a .room .now) (a .cells .now) (a .c) (c .before .before .before .before .before .before .before .before .before .before .before .before .before .before .before .before .before .before .before .before .before .before .before .trial-at .result) (c .before .before .before .before .before .before .before .before .before .before .before .before .before .before .before .before .before .before .before .before .before .before .fragment-at .result) (r .result) (multi (c .before .before .before .before .before .before .before .before .before .before .before .before .before .before .before .before .before .before .before .before .before .before .fragment-at .result)) (c .before .before .before .before .before .before .before .before .before .is-last .result)
+              (oneRows (a .live .now) (liveWidth * a .c .first) (a .c .counts .uncommitted) (c .before .before .before .before .before .before .before .before .before .before .before .before .before .before .before .before .before .before .before .before .before .before .fragment-at .result .coordinator)) (c .before .before .before .before .before .before .before .before .before .before .before .before .before .before .before .before .place-ran .result .sent) (c .before .before .before .before .before .before .before .before .before .before .before .before .before .before .before .before .place-ran .result .joins) (c .before .before .before .before .before .before .before .before .before .before .before .before .before .before .before .before .place-ran .result .near) answers (j .last .1 .0) (j .last .1 .1 .0) (c .before .before .before .before .before .before .before .before .before .before .before .before .put-answer-if .last .1 .0) (r .last .0) (j .result)
               (record {
                 tried = c .before .before .before .before .before .before .before .before .before .before .before .before .before .before .before .before .before .before .before .before .before .before .before .trial-at .ensures;
                 fragment = c .before .before .before .before .before .before .before .before .before .before .before .before .before .before .before .before .before .before .before .before .before .before .fragment-at .ensures;
                 ran = r .ensures .0;
                 stands = r .ensures .1;
-                multi = c .before .before .before .before .before .before .before .before .before .before .before .before .before .before .before .before .before .is-multi .ensures;
-                last = c .before .before .before .before .before .before .before .before .before .before .before .before .before .before .before .before .is-last .ensures;
-                is-one = c .before .before .before .before .before .before .before .before .before .before .before .before .before .before .before .one-coordinator .ensures;
-                is-near = c .before .before .before .before .before .before .before .before .before .before .before .before .before .before .nearest-multi .ensures;
-                is-ans = c .before .before .before .before .before .before .before .before .before .before .before .before .before .is-answered .ensures;
-                is-joins = c .before .before .before .before .before .before .before .before .before .before .before .before .is-joining .ensures;
-                count = c .before .before .before .before .before .before .before .before .before .before .answer-if .ensures .0;
-                is-room = c .before .before .before .before .before .before .before .before .before .before .answer-if .ensures .1;
-                is-runs = j .ensures .1 .0 ∙ ap {B = List ℕ} (λ (x : Course). pick (c .before .before .before .before .before .before .before .before .before .before .before .before .is-joining .result) (sets (a .runs .now) (runWidth * x .counts .uncommitted) (begunRow (not (c .before .before .before .before .before .before .before .before .before .before .before .before .before .is-answered .result)) (c .before .before .before .before .before .before .before .before .before .before .before .before .before .before .before .before .is-last .result) (r .result))) (a .runs .now)) (c .before .before .before .before .before .sends .ensures);
-                is-undo = j .ensures .1 .1 ∙ ap {B = List ℕ} (λ (x : Course). pick (c .before .before .before .before .before .before .before .before .before .before .before .before .is-joining .result) (sets (a .undo .now) (2 * x .entries) (numbersFrom (r .result .undo) 0 (2 * r .result .entries))) (a .undo .now)) (c .before .before .before .before .before .sends .ensures);
+                multi = refl;
+                last = c .before .before .before .before .before .before .before .before .before .is-last .ensures;
+                is-one = refl;
+                is-near = ap (λ (x : Placement). x .near) place;
+                is-ans = ap (λ (x : Placement). x .sent) place;
+                is-joins = ap (λ (x : Placement). x .joins) place;
+                count = refl;
+                is-room = c .before .before .before .before .before .before .before .before .before .before .before .before .put-answer-if .ensures;
+                is-runs = j .ensures .1 .0 ∙ ap {B = List ℕ} (λ (x : Course). pick (c .before .before .before .before .before .before .before .before .before .before .before .before .before .before .before .before .place-ran .result .joins) (sets (a .runs .now) (runWidth * x .counts .uncommitted) (begunRow (not (c .before .before .before .before .before .before .before .before .before .before .before .before .before .before .before .before .place-ran .result .sent)) (c .before .before .before .before .before .before .before .before .before .is-last .result) (r .result))) (a .runs .now)) (c .before .before .before .before .before .before .sends .ensures);
+                is-undo = j .ensures .1 .1 ∙ ap {B = List ℕ} (λ (x : Course). pick (c .before .before .before .before .before .before .before .before .before .before .before .before .before .before .before .before .place-ran .result .joins) (sets (a .undo .now) (2 * x .entries) (numbersFrom (r .result .undo) 0 (2 * r .result .entries))) (a .undo .now)) (c .before .before .before .before .before .before .sends .ensures);
                 counts = moved;
               }) (p .0) gone us w ws sent room₀ wk ct top sd tk,
-          kept-taking (a .c) (j .result) (r .result) (c .before .before .before .before .before .before .before .before .before .before .answer-if .result) (c .before .before .before .before .before .before .before .before .before .before .before .before .is-joining .result) moved,
+          kept-taking (a .c) (j .result) (r .result) answers (c .before .before .before .before .before .before .before .before .before .before .before .before .before .before .before .before .place-ran .result .joins) moved,
         ),
       ),
     )
@@ -133,19 +128,16 @@ take-first-spec =
     (tie.spec
     add-at
     mul-at
-    mul-from
     trial-at-requires
     fragment-at-requires
     run-fragment-requires
-    is-multi-requires
+    mul-place-ran
+    place-ran-requires
+    mul-put-answer-if
+    put-answer-if-requires
     is-last-requires
-    one-coordinator-requires
-    nearest-multi-requires
-    is-answered-requires
-    is-joining-requires
-    answer-if-requires
     sends-requires
-    join-if-requires
+    join-requires
     same-length
     same-length-2
     same-length-3

@@ -1,23 +1,19 @@
+use mathlib.Core.Path.{_∙_}
+use Rattle.engine.proofs.Draining.{all-laid}
 use borrow.Author.Tests.{eq-eqb, ne-eqb}
 use borrow.Author.Needs.{needs}
 use Rattle.engine.proofs.front.note_entries.Statement.{statement}
 use Rattle.engine.proofs.front.note_entries.Tie as tie
 use Rattle.engine.proofs.front.note_entries.Reads as reads
 use Rattle.engine.proofs.front.note_entries.Lts as lts
-use Rattle.record.proofs.lay.Reads as lay-reads
 use Rattle.record.proofs.shift.Reads as shift-reads
+use Rattle.rows.proofs.put_entries.Reads as put-entries-reads
 
-mul-lay : tie.Need-mul-lay
-mul-lay c = search needs
+mul-put-entries : tie.Need-mul-put-entries
+mul-put-entries c = search needs
 
-slice-aggregate-lay : tie.Need-slice-aggregate-lay
-slice-aggregate-lay c = search needs
-
-mul-lay-2 : tie.Need-mul-lay-2
-mul-lay-2 c = search needs
-
-lay-requires : tie.Need-lay-requires
-lay-requires c κs = search needs
+put-entries-requires : tie.Need-put-entries-requires
+put-entries-requires c κs = search needs
 
 add-result : tie.Need-add-result
 add-result c = search needs
@@ -35,7 +31,7 @@ same-length : tie.Need-same-length
 same-length c = search needs
 
 returns : tie.Need-returns
-returns c = let e = eq-eqb (c .before .before .before .before .before .before .before .before .before .before .before .args .r .place) 0 (c .before .before .before .before .before .before .before .before .if1 .taken) in (rw e, rw e (c .before .before .before .lay .ensures))
+returns c = let e = eq-eqb (c .before .before .before .before .before .before .before .before .args .r .place) 0 (c .before .before .before .before .before .if1 .taken) in (rw e, rw e (c .before .before .before .put-entries .ensures ∙ all-laid (c .before .before .before .before .before .before .before .before .args .undo .now) (c .before .before .before .before .before .before .before .before .args .r .undo) _ (c .before .before .before .before .before .before .before .before .args .r .entries) (c .before .before .before .before .before .before .before .before .pre .1)))
 
 same-length-2 : tie.Need-same-length-2
 same-length-2 c = search needs
@@ -47,10 +43,8 @@ pub note-entries-spec : {M : Type 1} → statement M
 note-entries-spec =
     tie.close
     (tie.spec
-    mul-lay
-    slice-aggregate-lay
-    mul-lay-2
-    lay-requires
+    mul-put-entries
+    put-entries-requires
     add-result
     mul-shift
     mul-shift-2

@@ -3,21 +3,18 @@ use mathlib.Core.Path.{_≡_, ap, _∙_}
 use mathlib.Core.List.{List}
 use lib.ListN.{length}
 use lib.Seq.{sets}
-use Rattle.rows.proofs.Reading.{laid-whole}
+use Rattle.rows.proofs.Reading.{laid-row}
 use borrow.Author.Needs.{needs}
-use Rattle.engine.proofs.answers.put_answer.Statement.{statement}
-use Rattle.engine.proofs.answers.put_answer.Tie as tie
-use Rattle.engine.proofs.answers.put_answer.Reads as reads
-use Rattle.engine.proofs.answers.put_answer.Lts as lts
+use Rattle.rows.proofs.put_answer.Statement.{statement}
+use Rattle.rows.proofs.put_answer.Tie as tie
+use Rattle.rows.proofs.put_answer.Reads as reads
+use Rattle.rows.proofs.put_answer.Lts as lts
 use Rattle.rows.proofs.answer_row.Reads as answer-row-reads
 use Rattle.record.proofs.lay.Reads as lay-reads
 use Rattle.model.specs.Limits.{answerWords}
 
 answer-row-requires : tie.Need-answer-row-requires
 answer-row-requires c κs = search needs
-
-mul-lay : tie.Need-mul-lay
-mul-lay c = search needs
 
 slice-aggregate-lay : tie.Need-slice-aggregate-lay
 slice-aggregate-lay c = search needs
@@ -32,9 +29,8 @@ returns : tie.Need-returns
 returns c = let a = c .before .before .before .before .before .before .before .before .args in
     let w = c .before .before .before .before .before .answer-row .result in
     let e : length w ≡ answerWords = search needs in
-    c .before .before .lay .ensures ∙ ap (λ (x : List ℕ). sets (a .room .now) (answerWords * a .answers) x) (laid-whole w answerWords e ∙ c .before .before .before .before .before .answer-row .ensures)
+    laid-row (a .room .now) _ w _ (a .at) answerWords (c .before .before .lay .ensures) e (c .before .before .before .before .before .answer-row .ensures)
 
 pub put-answer-spec : {M : Type 1} → statement M
 put-answer-spec =
-    tie.close
-    (tie.spec answer-row-requires mul-lay slice-aggregate-lay lay-requires same-length returns)
+    tie.close (tie.spec answer-row-requires slice-aggregate-lay lay-requires same-length returns)

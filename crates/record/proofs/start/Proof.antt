@@ -4,13 +4,13 @@ use mathlib.Core.Logic.{inl, inr}
 use borrow.Author.Tests.{eq-eqb}
 use lib.Dec.{eqb, ltb}
 use Rattle.model.specs.Limits.{mostCells}
-use Rattle.engine.proofs.Calling.{started-by, none-or-many}
+use Rattle.record.proofs.Starting.{started-by, none-or-many}
 use borrow.Author.Needs.{needs}
-use Rattle.engine.proofs.start.Statement.{statement}
-use Rattle.engine.proofs.start.Tie as tie
-use Rattle.engine.proofs.start.Reads as reads
-use Rattle.engine.proofs.start.Lts as lts
-use Rattle.engine.proofs.empty.Reads as empty-reads
+use Rattle.record.proofs.start.Statement.{statement}
+use Rattle.record.proofs.start.Tie as tie
+use Rattle.record.proofs.start.Reads as reads
+use Rattle.record.proofs.start.Lts as lts
+use Rattle.record.proofs.empty.Reads as empty-reads
 
 empty-requires : tie.Need-empty-requires
 empty-requires c κs = search needs

@@ -1,11 +1,11 @@
 use mathlib.Core.Path.{sym, _∙_}
-use Rattle.engine.proofs.Accepting.{refused-sound, refused-unsound}
+use Rattle.refusals.proofs.Firsts.{refused-sound, refused-unsound}
 use borrow.Author.Needs.{needs}
-use Rattle.engine.proofs.refused.Statement.{statement}
-use Rattle.engine.proofs.refused.Tie as tie
-use Rattle.engine.proofs.refused.Reads as reads
-use Rattle.engine.proofs.refused.Lts as lts
+use Rattle.refusals.proofs.refused.Statement.{statement}
+use Rattle.refusals.proofs.refused.Tie as tie
+use Rattle.refusals.proofs.refused.Reads as reads
+use Rattle.refusals.proofs.refused.Lts as lts
 use Rattle.refusals.proofs.refused_row.Reads as refused-row-reads
 use Rattle.soundness.proofs.is_sound.Reads as is-sound-reads
 
 is-sound-requires : tie.Need-is-sound-requires
