@@ -1,6 +1,6 @@
 -- Document 01, "Depot cases": P1 to P9, one table. Each case: the starting cells, the events, for each of them the returned number with
 -- the answers, and the cells at the end. "Cells 5 and 10 unless said". Then those of them that show the blocking scheme (02, L5), two of
--- what a failing operation found (02, L4), two that show what a commit releases (02, L6), and two that tell old answers from new ones (02, L2).
+-- what a failing operation found (02, L4), two that show what a commit releases (02, L6), and three that tell old answers from new ones (02, L2).
 use Prim.Native.Nat.{ℕ, _-_}
 use mathlib.Core.List.{List, [], _∷_, _++_}
 use mathlib.Core.Bool.{true, false}
@@ -192,5 +192,11 @@ attempted =
       events = finishing 1 1 (one (op 2 0 18)) ∷ finishing 3 1 (one (op 3 0 1)) ∷ unfinished 5 1 (one (op 3 0 1)) ∷ abort 1 ∷ abort 3 ∷ finishing 5 1 (one (op 3 0 1)) ∷ finishing 7 1 (one (op 1 0 0)) ∷ [];
       prints = printed (ok (gave 1 0 (18 ∷ [])) ∷ ok (gave 3 1 (19 ∷ [])) ∷ ok (gave 5 3 (20 ∷ [])) ∷ (0, retried 3 0 2 0 (6 ∷ []) ∷ retried 5 3 2 2 (7 ∷ []) ∷ []) ∷ ok (retried 5 0 3 0 (6 ∷ []))
           ∷ ok (retried 5 0 3 0 (7 ∷ [])) ∷ ok (retried 7 5 1 3 (7 ∷ [])) ∷ []) (7 ∷ 10 ∷ []);
+    }
+    -- 3 and 4 are held behind 2 of another coordinator; its commit sends 3, undone once, and releases 4, which was not
+    ∷ record {
+      cells = 5 ∷ 10 ∷ [];
+      events = finishing 1 1 (one (op 3 0 1)) ∷ finishing 2 1 (one (op 3 0 1)) ∷ finishing 3 2 (one (op 3 0 1)) ∷ abort 1 ∷ finishing 4 2 (one (op 3 0 1)) ∷ commit 2 ∷ [];
+      prints = printed (ok (gave 1 0 (6 ∷ [])) ∷ ok (gave 2 1 (7 ∷ [])) ∷ quiet ∷ ok (retried 2 0 2 0 (6 ∷ [])) ∷ quiet ∷ (0, retried 3 0 2 0 (7 ∷ []) ∷ retried 4 3 1 2 (8 ∷ []) ∷ []) ∷ []) (8 ∷ 10 ∷ []);
     }
     ∷ []
