@@ -1,4 +1,4 @@
--- Demand 3 of the library's calls: that of records, at the events that words stand for.
+-- Demand 3 and request L10 of the library's calls: those of records, at the events that words stand for.
 use Prim.Native.Nat.{ℕ}
 use mathlib.Core.Path.{refl}
 use mathlib.Core.List.{List, [], _∷_}
@@ -6,8 +6,10 @@ use Rattle.model.specs.Operations.{Cells}
 use Rattle.record.specs.View.{fragmentAt}
 use Rattle.carried.specs.Carried.{Words, AllWords}
 use Rattle.carried.proofs.Carrying.{carried}
+use Rattle.carried.proofs.Merging.{order-on-records}
 use Rattle.boundary.specs.Words.{eventOf}
 use Rattle.boundary.specs.Demanded.{LibraryCall, asCall, asCalls, LibraryDemand3}
+use Rattle.boundary.specs.Merged.{LibraryOrderMakesNoOdds}
 
 -- whatever the words
 eight : (l : List ℕ) → Words (eventOf l)
@@ -27,4 +29,13 @@ library-demand3 cs = record {
   dependent = λ calls l c k between b d. carried cs .dependent (asCalls calls) (all-eight calls) l (asCall c) (eight (c .words)) k (asCalls between) (all-eight between) b (asCall d);
   seen = λ calls l c k between b d. carried cs .seen (asCalls calls) (all-eight calls) l (asCall c) (eight (c .words)) k (asCalls between) (all-eight between) b (asCall d);
   never = λ calls c. carried cs .never (asCalls calls) (all-eight calls) (asCall c);
+}
+
+pub library-order : (cs : Cells) → LibraryOrderMakesNoOdds cs
+library-order cs = record {
+  cells = λ calls calls′ m. order-on-records cs .cells (asCalls calls) (asCalls calls′) (all-eight calls) (all-eight calls′) m;
+  singles = λ calls calls′ m. order-on-records cs .singles (asCalls calls) (asCalls calls′) (all-eight calls) (all-eight calls′) m;
+  answered = λ calls l. order-on-records cs .answered (asCalls calls) (all-eight calls) l;
+  settling = λ calls calls′ m. order-on-records cs .settling (asCalls calls) (asCalls calls′) (all-eight calls) (all-eight calls′) m;
+  late = λ calls l c. order-on-records cs .late (asCalls calls) (all-eight calls) l (asCall c);
 }

@@ -1,3 +1,4 @@
 pub mod Lent
 pub mod Words
 pub mod Demanded
+pub mod Merged

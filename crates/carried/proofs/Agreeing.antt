@@ -23,7 +23,7 @@ use Rattle.carried.specs.Agreed.{TwinsR, IdleR, RecordSchemesAgree}
 use Rattle.carried.proofs.Carrying.{meant, next-view, answers-are, answer-sent, reached, lent, from}
 use Rattle.record.proofs.Viewed.{view-count, view-waits}
 
-none-live : (us : List Uncommitted) (ws : List Waiting) (n m : ℕ) → length us ≡ n → length ws ≡ m → n + m ≡ 0 → numbers us ws ≡ []
+pub none-live : (us : List Uncommitted) (ws : List Waiting) (n m : ℕ) → length us ≡ n → length ws ≡ m → n + m ≡ 0 → numbers us ws ≡ []
 none-live [] [] n m u w h = refl
 none-live [] (x ∷ ws) n m u w h = absurd (omega arith)
 none-live (x ∷ us) ws n m u w h = absurd (omega arith)

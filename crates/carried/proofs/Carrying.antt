@@ -187,7 +187,7 @@ no-abort r [] w h = tt
 no-abort r (c ∷ calls) w h = (h .0, subst (λ (x : Run). NoAbort x calls) (onward-same r c (w .0)) (no-abort (onwardR r c) calls (w .1) (h .1)))
 
 -- the answers of calls are the model's
-sent-same : (r : RecordRun) (calls : List Call) → AllWords calls → sentInR r calls ≡ sentIn (meant r) calls
+pub sent-same : (r : RecordRun) (calls : List Call) → AllWords calls → sentInR r calls ≡ sentIn (meant r) calls
 sent-same r [] w = refl
 sent-same r (c ∷ calls) w = λ i. answers-are (r .kept) c (w .0) i ++ (sent-same (onwardR r c) calls (w .1) ∙ ap (λ (x : Run). sentIn x calls) (onward-same r c (w .0))) i
 

@@ -2,4 +2,5 @@ pub mod Unique
 pub mod Fine
 pub mod Carrying
 pub mod Agreeing
+pub mod Merging
 pub mod Starting

@@ -124,6 +124,16 @@ alike-refused e e′ c c′ h a =
 
 -- Two runs
 
+-- the cells are those of the settled ones where nothing is live
+pub whole-idle : (cs : Cells) (r : Run) → Whole cs r [] → Idle r → r .cells ≡ serial (settledOf (r .log)) cs
+whole-idle cs r w h =
+    whole-cells cs r [] w
+    ∙ ap (λ (n : ℕ). serial (take n (liveOf (r .log))) (serial (settledOf (r .log)) cs)) (none (r .engine .uncommitted) (r .engine .waiting) h)
+  where
+    none : (us : List Uncommitted) (ws : List Waiting) → numbers us ws ≡ [] → length us ≡ 0
+    none [] ws h = refl
+    none (u ∷ us) ws h = absurd (nil≢cons (sym h))
+
 record Paired (cs : Cells) (r r′ : Run) : Type 0 where
   whole : Whole cs r []
   whole′ : Whole cs r′ []
@@ -144,20 +154,10 @@ module _ (cs : Cells) (r r′ : Run) (p : Paired cs r r′) where
         (subst (λ (l : Log). Inv cs l (r′ .cells) (r′ .engine .uncommitted) (r′ .engine .waiting) []) (sym (p .log)) (p .whole′ .inv)) (p .whole .idle) (p .whole′ .idle);
   }
 
-  -- the cells are those of the settled ones where nothing is live
   idle-cells : Idle r → r .cells ≡ r′ .cells
   idle-cells h =
-      alone r (p .whole) h ∙ ap (λ (l : Log). serial (settledOf l) cs) (p .log)
-      ∙ sym (alone r′ (p .whole′) (sym (even .live) ∙ h))
-    where
-      none : (us : List Uncommitted) (ws : List Waiting) → numbers us ws ≡ [] → length us ≡ 0
-      none [] ws h = refl
-      none (u ∷ us) ws h = absurd (nil≢cons (sym h))
-
-      alone : (x : Run) → Whole cs x [] → Idle x → x .cells ≡ serial (settledOf (x .log)) cs
-      alone x w h =
-          whole-cells cs x [] w
-          ∙ ap (λ (n : ℕ). serial (take n (liveOf (x .log))) (serial (settledOf (x .log)) cs)) (none (x .engine .uncommitted) (x .engine .waiting) h)
+      whole-idle cs r (p .whole) h ∙ ap (λ (l : Log). serial (settledOf l) cs) (p .log)
+      ∙ sym (whole-idle cs r′ (p .whole′) (sym (even .live) ∙ h))
 
   module _ (c c′ : Call) (a : Alike c c′) where
     numbers-same : step (r .engine) c .number ≡ step (r′ .engine) c′ .number

@@ -19,6 +19,7 @@ pub mod Leaving
 pub mod Agreeing
 pub mod Blocking
 pub mod Rising
+pub mod Merging
 pub mod Running
 pub mod Codes
 pub mod Unique

@@ -22,7 +22,7 @@ numbers-append : (a b : List Tx) → numbersOf (a ++ b) ≡ numbersOf a ++ numbe
 numbers-append [] b = refl
 numbers-append (t ∷ a) b = ap {B = List ℕ} (λ (x : List ℕ). t .number ∷ x) (numbers-append a b)
 
-of-append : (l : Log) (a b : List Answer) → ofSingles l (a ++ b) ≡ ofSingles l a ++ ofSingles l b
+pub of-append : (l : Log) (a b : List Answer) → ofSingles l (a ++ b) ≡ ofSingles l a ++ ofSingles l b
 of-append l [] b = refl
 of-append l (x ∷ a) b = go (single (x .number) l) (of-append l a b)
   where

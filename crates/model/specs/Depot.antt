@@ -1,6 +1,7 @@
 -- Document 01, "Depot cases": P1 to P9, one table. Each case: the starting cells, the events, for each of them the returned number with
 -- the answers, and the cells at the end. "Cells 5 and 10 unless said". Then those of them that show the blocking scheme (02, L5), two of
--- what a failing operation found (02, L4), two that show what a commit releases (02, L6), and three that tell old answers from new ones (02, L2).
+-- what a failing operation found (02, L4), two that show what a commit releases (02, L6), three that tell old answers from new ones (02, L2), and
+-- one merged in two ways (02, L10).
 use Prim.Native.Nat.{ℕ, _-_}
 use mathlib.Core.List.{List, [], _∷_, _++_}
 use mathlib.Core.Bool.{true, false}
@@ -200,3 +201,18 @@ attempted =
       prints = printed (ok (gave 1 0 (6 ∷ [])) ∷ ok (gave 2 1 (7 ∷ [])) ∷ quiet ∷ ok (retried 2 0 2 0 (6 ∷ [])) ∷ quiet ∷ (0, retried 3 0 2 0 (7 ∷ []) ∷ retried 4 3 1 2 (8 ∷ []) ∷ []) ∷ []) (8 ∷ 10 ∷ []);
     }
     ∷ []
+
+-- L10: the abort of 1 after the single 2 arrived, when 2 has run behind 1 and runs again, and before. 2 is answered 6 in both, in its attempts 2 and 1.
+abbrev pub slowly : Case
+slowly = record {
+  cells = 5 ∷ 10 ∷ [];
+  events = finishing 1 1 (one (op 2 0 17)) ∷ single 2 (one (op 3 0 1)) ∷ abort 1 ∷ [];
+  prints = printed (ok (gave 1 0 (17 ∷ [])) ∷ quiet ∷ ok (retried 2 0 2 0 (6 ∷ [])) ∷ []) (6 ∷ 10 ∷ []);
+}
+
+abbrev pub swiftly : Case
+swiftly = record {
+  cells = 5 ∷ 10 ∷ [];
+  events = finishing 1 1 (one (op 2 0 17)) ∷ abort 1 ∷ single 2 (one (op 3 0 1)) ∷ [];
+  prints = printed (ok (gave 1 0 (17 ∷ [])) ∷ quiet ∷ ok (gave 2 0 (6 ∷ [])) ∷ []) (6 ∷ 10 ∷ []);
+}

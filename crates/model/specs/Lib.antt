@@ -6,5 +6,6 @@ pub mod Refusals
 pub mod Serial
 pub mod Demand
 pub mod Schemes
+pub mod Merged
 pub mod Depot
 pub mod Parts

@@ -1,6 +1,6 @@
 //! The record and the steps of document 01, in place and on plain lists.
 
-use crate::event::{Event, Fragment, Operation, ADD, COMMIT, FRAGMENT, LAST, MULTI, PLACES, READ, TAKE};
+use crate::event::{Event, Fragment, Operation, ABORT, ADD, COMMIT, FRAGMENT, LAST, MULTI, PLACES, READ, TAKE};
 use std::collections::VecDeque;
 use std::mem::swap;
 
@@ -274,12 +274,25 @@ pub enum Fault {
     AttemptWithoutDependence,
     /// Gives what it releases its own attempt for that of the dependence; what the drain runs is right.
     ReleaseInItsOwnAttempt,
+    /// Takes the decision of a speculated multi when it arrives, and settles it or takes it back where it stands. What
+    /// is ahead of it and undone later puts old numbers over its own.
+    DecidedSettlesInItsPlace,
+    /// Takes it, undoes all, and lets the decided one run ahead of all that are undecided: they settle in the order of
+    /// their decisions.
+    DecidedGoesAhead,
+    /// A commit that comes when singles have run behind the front settles them first: all is undone, and the front runs
+    /// once more behind them.
+    LateCommitGoesBehind,
+    /// An abort takes back the front's changes and leaves what has run behind it.
+    AbortUndoesTheFrontAlone,
+    /// A single that waits first runs and settles before a later fragment of the front does.
+    WaitingPassesTheFront,
     /// No trace lends less than the room: the depot program's calls show it.
     LeastRoom1023,
 }
 
 impl Fault {
-    pub const ALL: [Fault; 52] = [
+    pub const ALL: [Fault; 57] = [
         Fault::UndoOldestFirst,
         Fault::SpeculateBehindUnfinishedFront,
         Fault::RequeueReversed,
@@ -331,6 +344,11 @@ impl Fault {
         Fault::DependenceWithoutAttempt,
         Fault::AttemptWithoutDependence,
         Fault::ReleaseInItsOwnAttempt,
+        Fault::DecidedSettlesInItsPlace,
+        Fault::DecidedGoesAhead,
+        Fault::LateCommitGoesBehind,
+        Fault::AbortUndoesTheFrontAlone,
+        Fault::WaitingPassesTheFront,
         Fault::LeastRoom1023,
     ];
 
@@ -362,7 +380,11 @@ impl Fault {
             | Fault::DependenceInItsOwnAttempt
             | Fault::DependenceInTheFrontsAttempt
             | Fault::DependenceWithoutAttempt
-            | Fault::ReleaseInItsOwnAttempt => scheme == Scheme::Speculation,
+            | Fault::ReleaseInItsOwnAttempt
+            | Fault::DecidedSettlesInItsPlace
+            | Fault::DecidedGoesAhead
+            | Fault::LateCommitGoesBehind
+            | Fault::AbortUndoesTheFrontAlone => scheme == Scheme::Speculation,
             Fault::BlockingNeverBlocks
             | Fault::BlockingSpeculatesOnce
             | Fault::BlockingWhenIdle
@@ -386,7 +408,8 @@ impl Fault {
             | Fault::AttemptOfTheWaitingRaised
             | Fault::AttemptRaisedByAFragment
             | Fault::AttemptsSwapped
-            | Fault::AttemptWithoutDependence => true,
+            | Fault::AttemptWithoutDependence
+            | Fault::WaitingPassesTheFront => true,
         }
     }
 
@@ -401,6 +424,30 @@ impl Fault {
                 | Fault::FailureKeepsWrites
                 | Fault::BlockingWhenIdle
                 | Fault::BlockingRefusesNew
+                | Fault::DecidedSettlesInItsPlace
+                | Fault::DecidedGoesAhead
+                | Fault::LateCommitGoesBehind
+                | Fault::AbortUndoesTheFrontAlone
+        )
+    }
+
+    /// Whether two merges of the same transactions and decisions differ under it in more than the answers of multis and
+    /// the attempts, or one of them has no end.
+    pub fn parts_merges(self) -> bool {
+        matches!(
+            self,
+            Fault::UndoOldestFirst
+                | Fault::SpeculateBehindUnfinishedFront
+                | Fault::RequeueReversed
+                | Fault::SingleAnsweredEarly
+                | Fault::FailureKeepsWrites
+                | Fault::BlockingWhenIdle
+                | Fault::DependenceBeforeNumber
+                | Fault::DecidedSettlesInItsPlace
+                | Fault::DecidedGoesAhead
+                | Fault::LateCommitGoesBehind
+                | Fault::AbortUndoesTheFrontAlone
+                | Fault::WaitingPassesTheFront
         )
     }
 }
@@ -441,10 +488,11 @@ impl Engine {
         }
         let mut answers = Vec::new();
         if refused == 0 {
-            match event.kind {
-                FRAGMENT => self.arrive(event.fragment, cells, &mut answers),
-                COMMIT => self.settle(&mut answers),
-                _ => self.abort(cells),
+            match (event.kind, self.early(event)) {
+                (_, Some(at)) => self.decide_early(at, event.kind, cells, &mut answers),
+                (FRAGMENT, _) => self.arrive(event.fragment, cells, &mut answers),
+                (COMMIT, _) => self.commit(cells, &mut answers),
+                _ => self.abort(cells, &mut answers),
             }
             let late = self.fault == Fault::ReleaseAfterTheDrain;
             let releases = self.releases_after(event.kind);
@@ -504,7 +552,11 @@ impl Engine {
         } else if !live && number <= record.largest {
             6
         } else if live && front.is_none() {
-            7
+            if self.early(event).is_some() {
+                0
+            } else {
+                7
+            }
         } else if event.kind == FRAGMENT {
             self.fragment_refusal(front, &event.fragment)
         } else {
@@ -557,7 +609,11 @@ impl Engine {
 
     fn arrive(&mut self, fragment: Fragment, cells: &mut [u32], answers: &mut Vec<Answer>) {
         let fault = self.fault;
-        match self.record.uncommitted.front_mut().filter(|front| front.first.number == fragment.number) {
+        let later = self.record.uncommitted.front().is_some_and(|front| front.first.number == fragment.number);
+        if later && fault == Fault::WaitingPassesTheFront {
+            self.pass(cells, answers);
+        }
+        match self.record.uncommitted.front_mut().filter(|_| later) {
             Some(front) => {
                 let outcome = run(front, &fragment, cells, fault);
                 front.attempt += u32::from(fault == Fault::AttemptRaisedByAFragment);
@@ -570,6 +626,66 @@ impl Engine {
                 self.record.waiting.push_back(Waiting { first: fragment, attempt });
             }
         }
+    }
+
+    /// A wrong engine's: the single that waits first runs as if nothing were uncommitted.
+    fn pass(&mut self, cells: &mut [u32], answers: &mut Vec<Answer>) {
+        let waiting = &mut self.record.waiting;
+        if waiting.front().is_some_and(|next| !next.first.is_multi()) {
+            answers.extend(waiting.pop_front().map(|next| run_alone(next, cells, self.fault)));
+        }
+    }
+
+    fn commit(&mut self, cells: &mut [u32], answers: &mut Vec<Answer>) {
+        let uncommitted = &mut self.record.uncommitted;
+        let ran = uncommitted.iter().skip(1).take_while(|one| !one.first.is_multi()).count();
+        // What more fragments than the first did is not kept, and cannot be run once more.
+        if self.fault != Fault::LateCommitGoesBehind || ran == 0 || uncommitted[0].fragments_run > 1 {
+            return self.settle(answers);
+        }
+        self.undo_all(cells);
+        self.requeue();
+        let late = self.record.waiting.pop_front();
+        let singles: Vec<Waiting> = self.record.waiting.drain(..ran).collect();
+        answers.extend(singles.into_iter().map(|next| run_alone(next, cells, self.fault)));
+        late.map(|late| run_alone(late, cells, self.fault));
+    }
+
+    /// The place of a multi behind the front whose decision is taken all the same: never. A wrong engine does.
+    fn early(&self, event: &Event) -> Option<usize> {
+        let takes = match self.fault {
+            Fault::DecidedSettlesInItsPlace => true,
+            Fault::DecidedGoesAhead => self.record.uncommitted.front().is_some_and(|front| front.fragments_run == 1),
+            _ => false,
+        };
+        if !takes || event.kind == FRAGMENT {
+            return None;
+        }
+        let of_event = |one: &Uncommitted| one.first.number == event.fragment.number && one.first.is_multi();
+        let at = self.record.uncommitted.iter().position(of_event).filter(|&at| at > 0)?;
+        (event.kind == ABORT || self.record.uncommitted[at].state == State::Finished).then_some(at)
+    }
+
+    fn decide_early(&mut self, at: usize, kind: u32, cells: &mut [u32], answers: &mut Vec<Answer>) {
+        if self.fault == Fault::DecidedGoesAhead {
+            self.undo_all(cells);
+            self.requeue();
+            let decided = self.record.waiting.remove(at).filter(|_| kind == COMMIT);
+            decided.map(|decided| run_alone(decided, cells, self.fault));
+            return;
+        }
+        let ahead: VecDeque<Uncommitted> = self.record.uncommitted.drain(..at).collect();
+        if kind == ABORT {
+            self.undo_all(cells);
+            self.record.uncommitted.pop_front();
+            self.requeue();
+        } else if let Some(Uncommitted { first, attempt, held: Some(outcome), .. }) =
+            self.record.uncommitted.pop_front()
+        {
+            answers.push(Answer { number: first.number, attempt, dependence: Dependence::default(), outcome });
+        }
+        let behind = std::mem::replace(&mut self.record.uncommitted, ahead);
+        self.record.uncommitted.extend(behind);
     }
 
     /// The front settles, then the singles behind it; the next multi is the new front.
@@ -640,12 +756,19 @@ impl Engine {
         }
     }
 
-    fn abort(&mut self, cells: &mut [u32]) {
-        for one in self.record.uncommitted.iter_mut().rev() {
-            undo(one, cells, self.fault);
+    fn abort(&mut self, cells: &mut [u32], answers: &mut Vec<Answer>) {
+        if self.fault == Fault::AbortUndoesTheFrontAlone {
+            self.record.uncommitted.iter_mut().take(1).for_each(|front| undo(front, cells, self.fault));
+            return self.settle(answers);
         }
+        self.undo_all(cells);
         self.record.uncommitted.pop_front();
         self.requeue();
+    }
+
+    /// From the tail to the front.
+    fn undo_all(&mut self, cells: &mut [u32]) {
+        self.record.uncommitted.iter_mut().rev().for_each(|one| undo(one, cells, self.fault));
     }
 
     /// All uncommitted ones return to the head of the waiting queue in their old order, each for one more attempt.
@@ -740,6 +863,13 @@ impl Engine {
     fn most_live(&self) -> usize {
         MOST_LIVE + usize::from(self.fault == Fault::Live65)
     }
+}
+
+/// Runs one that waits and lets it settle: the answer that it gives.
+fn run_alone(Waiting { first, attempt }: Waiting, cells: &mut [u32], fault: Fault) -> Answer {
+    let mut one = Uncommitted { first, attempt, fragments_run: 0, state: State::Running, held: None, undo: Vec::new() };
+    let outcome = run(&mut one, &first, cells, fault);
+    Answer { number: first.number, attempt, dependence: Dependence::default(), outcome }
 }
 
 /// What the attempt of an undone one becomes: one more. `first` is whether it is the first that returns.

@@ -6,6 +6,7 @@
 //! * `layout`: the record as words, and a call on words
 //! * `trace`: the trace program; `examples`: traces worth keeping; `edges`: those that were worked by hand;
 //!   `generate`: seeded traces and what they reach
+//! * `merge`: the same transactions and decisions merged in two ways
 
 pub mod edges;
 pub mod engine;
@@ -13,6 +14,7 @@ pub mod event;
 pub mod examples;
 pub mod generate;
 pub mod layout;
+pub mod merge;
 pub mod trace;
 
 pub use engine::{Answer, Dependence, Engine, Fault, Outcome, Record, Scheme, State, Uncommitted, Waiting};

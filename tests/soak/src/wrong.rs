@@ -116,6 +116,11 @@ impl Wrong {
     pub fn parting() -> Vec<Wrong> {
         Fault::ALL.into_iter().filter(|fault| fault.parts_schemes()).map(Wrong::Fault).collect()
     }
+
+    /// All that two merges must notice.
+    pub fn merging() -> Vec<Wrong> {
+        Fault::ALL.into_iter().filter(|fault| fault.parts_merges()).map(Wrong::Fault).collect()
+    }
 }
 
 /// What a call was lent, as slices, and its scheme.
