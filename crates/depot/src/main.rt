@@ -16,8 +16,8 @@ struct Change {
     word_too: u32,
 }
 
-// First 47 unsound records, by the clauses of refusal 1; then 28 odd ones that no run leaves and that are sound.
-const CASES: [Change; 75] = [
+// Unsound records, by the clauses of refusal 1. The tables are two, as a check takes longer by the square of a table's length.
+const UNSOUND: [Change; 47] = [
     // a cell count above 4,096
     Change {
         place: 0,
@@ -347,6 +347,10 @@ const CASES: [Change; 75] = [
         place_too: 2484,
         word_too: 0,
     },
+];
+
+// Odd records that no run leaves and that are sound.
+const ODD: [Change; 28] = [
     // nothing odd
     Change {
         place: 2484,
@@ -731,7 +735,38 @@ fn decide_both(
     decide(out, middle, position, r, cells, 3, room)
 }
 
-// Of an unsound one each is 1, whatever comes; a sound one is decided. Both kinds are numbered from 1.
+// Of an unsound one each is 1, whatever comes.
+fn try_unsound(
+    out: &mut [u8],
+    at: u32,
+    i: usize,
+    r: Record,
+    cells: &mut [u32],
+    room: &mut [u32],
+) -> u32
+    requires { ⌜ i < 47 ⌝ }
+{
+    let c = UNSOUND[i];
+    try_call(
+        out,
+        at,
+        i as u32 + 1,
+        case(r, c),
+        cells,
+        decision(3, 3),
+        room,
+    )
+}
+
+// A sound one is decided.
+fn try_odd(out: &mut [u8], at: u32, i: usize, r: Record, cells: &mut [u32], room: &mut [u32]) -> u32
+    requires { ⌜ i < 28 ⌝ }
+{
+    let c = ODD[i];
+    decide_both(out, at, i as u32 + 1, case(r, c), cells, room)
+}
+
+// Both kinds are numbered from 1.
 fn try_case(
     out: &mut [u8],
     at: u32,
@@ -742,19 +777,10 @@ fn try_case(
 ) -> u32
     requires { ⌜ i < 75 ⌝ }
 {
-    let c = CASES[i];
     if i < 47 {
-        return try_call(
-            out,
-            at,
-            i as u32 + 1,
-            case(r, c),
-            cells,
-            decision(3, 3),
-            room,
-        );
+        return try_unsound(out, at, i, r, cells, room);
     }
-    decide_both(out, at, i as u32 - 46, case(r, c), cells, room)
+    try_odd(out, at, i - 47, r, cells, room)
 }
 
 fn cases(out: &mut [u8], r: Record, cells: &mut [u32], room: &mut [u32]) -> u32 {
