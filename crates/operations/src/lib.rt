@@ -13,7 +13,8 @@ use model::Fragment;
 use model::Op;
 use model::Undo;
 
-// "One table of codes says for each whether v is used, whether it may write and whether it may fail": place 0 is no code.
+// "One table of codes says for each whether v is used, whether it may write and whether it may fail": place 0 is no code. Each row is read at
+// constant places, which the compiler folds: at a place that is not known it would lay the row out on the stack at every look-up.
 const USES: [bool; 9] = [false, false, true, true, true, true, true, true, true];
 
 const WRITES: [bool; 9] = [false, false, true, true, true, false, false, true, true];
@@ -29,26 +30,48 @@ pub fn is_known(code: u32) -> bool
 pub fn uses_amount(code: u32) -> bool
     ensures { λ r. ⌜ r ≡ uses code ⌝ }
 {
-    if code < 9 { USES[code as usize] } else { false }
+    match code {
+        1 => USES[1],
+        2 => USES[2],
+        3 => USES[3],
+        4 => USES[4],
+        5 => USES[5],
+        6 => USES[6],
+        7 => USES[7],
+        8 => USES[8],
+        _ => false,
+    }
 }
 
 pub fn may_write(code: u32) -> bool
     ensures { λ r. ⌜ r ≡ writes code ⌝ }
 {
-    if code < 9 {
-        WRITES[code as usize]
-    } else {
-        false
+    match code {
+        1 => WRITES[1],
+        2 => WRITES[2],
+        3 => WRITES[3],
+        4 => WRITES[4],
+        5 => WRITES[5],
+        6 => WRITES[6],
+        7 => WRITES[7],
+        8 => WRITES[8],
+        _ => false,
     }
 }
 
 pub fn may_fail(code: u32) -> bool
     ensures { λ r. ⌜ r ≡ mayFail code ⌝ }
 {
-    if code < 9 {
-        MAY_FAIL[code as usize]
-    } else {
-        false
+    match code {
+        1 => MAY_FAIL[1],
+        2 => MAY_FAIL[2],
+        3 => MAY_FAIL[3],
+        4 => MAY_FAIL[4],
+        5 => MAY_FAIL[5],
+        6 => MAY_FAIL[6],
+        7 => MAY_FAIL[7],
+        8 => MAY_FAIL[8],
+        _ => false,
     }
 }
 
