@@ -34,6 +34,7 @@ typedef struct step {
  */
 typedef struct plan {
     uint32_t cells, copies;
+    uint32_t together; /* calls that are shown as one: 1, or those of a run */
     step *before, *timed;
     size_t before_count, timed_count;
     uint32_t *contents; /* the first contents of the cells */
@@ -43,6 +44,9 @@ typedef struct plan {
 /* Whether a fragment's changes are in the cells when all steps are done. */
 typedef enum effect { LOST, KEPT } effect;
 
+/* Whether a fragment can fail by its codes: it adds, or it sets and raises in turn. */
+typedef enum codes { MAY_FAIL, CANT_FAIL } codes;
+
 /* A plan to add steps to: any step, or a fragment of so many adds, which is accepted. */
 plan *plan_new(uint32_t cells, uint32_t copies);
 step *plan_step(plan *p, int timed, uint32_t kind, uint32_t number, uint32_t returned, uint32_t answers);
@@ -50,9 +54,9 @@ step *plan_adds(plan *p, int timed, uint32_t number, uint32_t flags, uint32_t op
 
 plan *plan_refusal_4(uint32_t calls);
 plan *plan_refusal_14(uint32_t calls);
-plan *plan_idle(uint32_t cells, uint32_t operations, uint32_t calls);
+plan *plan_idle(uint32_t cells, uint32_t operations, codes c, uint32_t calls);
 plan *plan_mix(uint32_t cycles);
-plan *plan_commit(uint32_t waiting, uint32_t copies);
+plan *plan_commit(uint32_t waiting, codes c, uint32_t copies);
 plan *plan_abort(uint32_t speculated, uint32_t copies);
 plan *plan_join(uint32_t waiting, uint32_t copies);
 void plan_drop(plan *p);
@@ -76,7 +80,7 @@ uint32_t step_on(const engine *e, void *state, uint32_t *cells, const plan *p, c
 double now(void);
 double taken(void);
 
-/* One batch of a plan's timed steps on copies of what is prepared: nanoseconds a call. */
+/* One batch of a plan's timed steps on copies of what is prepared: nanoseconds a call, or a run of them. */
 double batch(const char *name, const plan *p, const prepared *from, double (*clock)(void));
 
 /* Both engines side by side, all words of all answers and cells compared; the sum of all numbers that were answered. */
@@ -88,6 +92,26 @@ double unit_batch(void);
 
 void in_round(size_t round, void (*work)(void *), void *with);
 int rising(const void *one, const void *other);
+
+/*
+ * So many partitions of 4,096 cells on one engine, called in a shuffled order by idle singles of 2: partitions.c. A
+ * batch is of so many calls. Fleets of one seed get the same calls.
+ */
+typedef struct fleet fleet;
+fleet *fleet_new(const engine *e, size_t partitions, size_t calls, uint64_t seed);
+void fleet_drop(fleet *f);
+void fleet_warm(fleet *f);                        /* calls each partition once */
+double fleet_batch(fleet *f);                     /* nanoseconds a call */
+void fleets_compare(fleet *one, fleet *other);    /* the next batch on both: all words of answers and cells */
+void fleet_check(const fleet *f);                 /* the cells hold what was added, and no more */
+
+/*
+ * So many threads at once, each with a proved fleet of its own and no memory in common: nanoseconds for each call of
+ * all of them. And how many processors they may run on.
+ */
+enum { MOST_THREADS = 2 };
+double threads_batch(fleet *const *fleets, size_t threads);
+size_t processors(void);
 
 /* The two schemes under one load, over the share of aborts: schemes.c. As CSV, or with 0 rounds only compared. */
 size_t compare_schemes(size_t rounds, size_t warmup);

@@ -10,7 +10,7 @@ plan *plan_new(uint32_t cells, uint32_t copies)
 {
     uint32_t i;
     plan *p = room_for(1, sizeof *p);
-    *p = (plan){.cells = cells, .copies = copies};
+    *p = (plan){.cells = cells, .copies = copies, .together = 1};
     p->before = room_for(ROOM_OF_STEPS, sizeof(step));
     p->timed = room_for(ROOM_OF_STEPS, sizeof(step));
     p->contents = room_for(cells, sizeof(uint32_t));
@@ -43,8 +43,9 @@ step *plan_step(plan *p, int timed, uint32_t kind, uint32_t number, uint32_t ret
     return s;
 }
 
-/* A fragment that adds 1 to each of so many cells, spread over all. */
-step *plan_adds(plan *p, int timed, uint32_t number, uint32_t flags, uint32_t operations, effect e, uint32_t answers)
+/* A fragment on so many cells, spread over all: adds of 1, or sets and raises. */
+static step *fragment(plan *p, int timed, uint32_t number, uint32_t flags, uint32_t operations, codes c, effect e,
+                      uint32_t answers)
 {
     uint32_t i;
     step *s = plan_step(p, timed, HARUKDALIS_FRAGMENT, number, HARUKDALIS_ACCEPTED, answers);
@@ -53,12 +54,27 @@ step *plan_adds(plan *p, int timed, uint32_t number, uint32_t flags, uint32_t op
     s->event[HARUKDALIS_EVENT_COUNT] = operations;
     for (i = 0; i < operations; i++) {
         uint32_t *o = &s->event[HARUKDALIS_EVENT_OPERATIONS + i * HARUKDALIS_OPERATION_WORDS];
-        o[HARUKDALIS_OPERATION_CODE] = HARUKDALIS_ADD;
-        o[HARUKDALIS_OPERATION_CELL] = (number * 37 + i * 11) % p->cells;
-        o[HARUKDALIS_OPERATION_AMOUNT] = 1;
-        p->expected[o[HARUKDALIS_OPERATION_CELL]] += e == KEPT;
+        uint32_t cell = (number * 37 + i * 11) % p->cells, amount = c == MAY_FAIL ? 1 : 1000 + number, after;
+        o[HARUKDALIS_OPERATION_CELL] = cell;
+        o[HARUKDALIS_OPERATION_AMOUNT] = amount;
+        if (c == MAY_FAIL) {
+            o[HARUKDALIS_OPERATION_CODE] = HARUKDALIS_ADD;
+            after = p->expected[cell] + amount;
+        } else if (i % 2 == 0) {
+            o[HARUKDALIS_OPERATION_CODE] = HARUKDALIS_SET;
+            after = amount;
+        } else {
+            o[HARUKDALIS_OPERATION_CODE] = HARUKDALIS_RAISE;
+            after = p->expected[cell] > amount ? p->expected[cell] : amount;
+        }
+        p->expected[cell] = e == KEPT ? after : p->expected[cell];
     }
     return s;
+}
+
+step *plan_adds(plan *p, int timed, uint32_t number, uint32_t flags, uint32_t operations, effect e, uint32_t answers)
+{
+    return fragment(p, timed, number, flags, operations, MAY_FAIL, e, answers);
 }
 
 static void single(plan *p, int timed, uint32_t number, uint32_t operations, effect e, uint32_t answers)
@@ -94,12 +110,12 @@ plan *plan_refusal_14(uint32_t calls)
 }
 
 /* Singles with nothing live: each settles and is answered at once. */
-plan *plan_idle(uint32_t cells, uint32_t operations, uint32_t calls)
+plan *plan_idle(uint32_t cells, uint32_t operations, codes c, uint32_t calls)
 {
     uint32_t number;
     plan *p = plan_new(cells, 1);
     for (number = 1; number <= calls; number++) {
-        single(p, 1, number, operations, KEPT, 1);
+        fragment(p, 1, number, HARUKDALIS_LAST, operations, c, KEPT, 1);
     }
     return p;
 }
@@ -131,13 +147,13 @@ plan *plan_mix(uint32_t cycles)
  * Singles wait behind a front that is not finished. Its last fragment lets 15 of them be speculated, its commit settles
  * those and drains the others: that call is timed.
  */
-plan *plan_commit(uint32_t waiting, uint32_t copies)
+plan *plan_commit(uint32_t waiting, codes c, uint32_t copies)
 {
     uint32_t i;
     plan *p = plan_new(CELLS, copies);
     multi(p, 0, 1, 0, KEPT);
     for (i = 0; i < waiting; i++) {
-        single(p, 0, 2 + i, 1, KEPT, 0);
+        fragment(p, 0, 2 + i, HARUKDALIS_LAST, 1, c, KEPT, 0);
     }
     multi(p, 0, 1, HARUKDALIS_LAST, KEPT);
     plan_step(p, 1, HARUKDALIS_COMMIT, 1, HARUKDALIS_ACCEPTED, waiting);

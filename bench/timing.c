@@ -119,7 +119,7 @@ __attribute__((noinline)) double batch(const char *name, const plan *p, const pr
     }
     free(states);
     free(cells);
-    return (ended - began) / (double)(p->copies * p->timed_count);
+    return (ended - began) * p->together / (double)(p->copies * p->timed_count);
 }
 
 uint64_t compare(const char *name, const plan *p, const engine *e, const engine *other_engine)

@@ -116,7 +116,8 @@ extern "C" {
 /*
  * The engine's record. The host keeps it between calls and hands it back as it was; it has no pointers, so it may be
  * copied, moved and stored. Its fields are the engine's own: a host need not read them and should not change them. Any
- * words are a record that may be handed in; a call refuses those that are not sound.
+ * words are a record that may be handed in; a call refuses those that are not sound. Where a record did not come from a
+ * start by calls alone, do not compare it by its bytes: what stands in unused places means nothing, and may stay.
  */
 typedef struct harukdalis_record {
     uint32_t count;       /* cells, as given at the start */

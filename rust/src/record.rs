@@ -10,6 +10,9 @@ use std::fmt;
 /// read the fields.
 ///
 /// To store one, write its [`words`](Record::words) in a byte order of your choice, with the cells beside them.
+///
+/// Two are equal if all their words are, those of unused places too. So are two that mean the same, where nothing but
+/// calls made both from a start on; others may differ in places that no call reached.
 #[repr(C)]
 #[derive(Clone, PartialEq, Eq)]
 pub struct Record {

@@ -1,33 +1,25 @@
 -- Demand 3 and request L10 of the library's calls: those of records, at the events that words stand for.
-use Prim.Native.Nat.{ℕ}
-use mathlib.Core.Path.{refl}
 use mathlib.Core.List.{List, [], _∷_}
 use Rattle.model.specs.Operations.{Cells}
-use Rattle.record.specs.View.{fragmentAt}
-use Rattle.carried.specs.Carried.{Words, AllWords}
+use Rattle.carried.specs.Carried.{AllWords}
 use Rattle.carried.proofs.Carrying.{carried}
 use Rattle.carried.proofs.Merging.{order-on-records}
-use Rattle.boundary.specs.Words.{eventOf}
+use Rattle.record.proofs.Events.{event-eight}
 use Rattle.boundary.specs.Demanded.{LibraryCall, asCall, asCalls, LibraryDemand3}
 use Rattle.boundary.specs.Merged.{LibraryOrderMakesNoOdds}
 
--- whatever the words
-eight : (l : List ℕ) → Words (eventOf l)
-unfolding eventOf fragmentAt
-eight l = refl
-
 all-eight : (calls : List LibraryCall) → AllWords (asCalls calls)
 all-eight [] = tt
-all-eight (c ∷ calls) = (eight (c .words), all-eight calls)
+all-eight (c ∷ calls) = (event-eight (c .words), all-eight calls)
 
 pub library-demand3 : (cs : Cells) → LibraryDemand3 cs
 library-demand3 cs = record {
   cells = λ calls l. carried cs .cells (asCalls calls) (all-eight calls) l;
   queues = λ calls l. carried cs .queues (asCalls calls) (all-eight calls) l;
   settling = λ calls l c k. carried cs .settling (asCalls calls) (all-eight calls) l (asCall c) k;
-  plain = λ calls l c k. carried cs .plain (asCalls calls) (all-eight calls) l (asCall c) (eight (c .words)) k;
-  dependent = λ calls l c k between b d. carried cs .dependent (asCalls calls) (all-eight calls) l (asCall c) (eight (c .words)) k (asCalls between) (all-eight between) b (asCall d);
-  seen = λ calls l c k between b d. carried cs .seen (asCalls calls) (all-eight calls) l (asCall c) (eight (c .words)) k (asCalls between) (all-eight between) b (asCall d);
+  plain = λ calls l c k. carried cs .plain (asCalls calls) (all-eight calls) l (asCall c) (event-eight (c .words)) k;
+  dependent = λ calls l c k between b d. carried cs .dependent (asCalls calls) (all-eight calls) l (asCall c) (event-eight (c .words)) k (asCalls between) (all-eight between) b (asCall d);
+  seen = λ calls l c k between b d. carried cs .seen (asCalls calls) (all-eight calls) l (asCall c) (event-eight (c .words)) k (asCalls between) (all-eight between) b (asCall d);
   never = λ calls c. carried cs .never (asCalls calls) (all-eight calls) (asCall c);
 }
 

@@ -1,29 +1,21 @@
--- The event that words stand for: from its parts, and refused where it is not 29 words.
+-- An event of another length than 29 words is refused.
 use Prim.Native.Nat.{ℕ}
 use mathlib.Core.Bool.{Bool, true, false, not, _&&_, _||_, true≢false}
-use mathlib.Core.Path.{_≡_, ap, sym, subst, _∙_}
+use mathlib.Core.Path.{_≡_, sym, subst}
 use mathlib.Core.List.{List}
 use lib.Dec.{leb, eqb}
 use lib.ListN.{length, getD}
 use Rattle.model.specs.Limits.{eventWords}
-use Rattle.model.specs.Operations.{Cells, pick}
+use Rattle.model.specs.Operations.{Cells}
 use Rattle.model.specs.Refusals.{formed, blank}
-use Rattle.model.specs.declared.Event.{Event}
 use Rattle.model.specs.declared.Scheme.{Scheme}
-use Rattle.model.specs.declared.Fragment.{Fragment}
 use Rattle.model.proofs.Passing.{passed, took}
 use Rattle.refusals.specs.Rest.{callOf}
 use Rattle.record.specs.declared.Record.{Record}
 use Rattle.record.specs.View.{view, fragmentAt}
+use Rattle.record.specs.Events.{eventOf}
+use Rattle.record.proofs.Events.{kind-by}
 use Rattle.engine.specs.Called.{called, stepped}
-use Rattle.boundary.specs.Words.{eventOf}
-
-kind-by : (b : Bool) (l : List ℕ) → eqb (length l) eventWords ≡ b → pick b (getD l 0 0) 0 ≡ pick (eqb (length l) eventWords) (getD l 0 0) 0
-kind-by b l t = ap (λ (c : Bool). pick c (getD l 0 0) 0) (sym t)
-
-pub event-by : (b : Bool) (l : List ℕ) (k n : ℕ) (f : Fragment) → eqb (length l) eventWords ≡ b → k ≡ pick b (getD l 0 0) 0 → n ≡ getD l 1 0 → f ≡ fragmentAt l 1 → record { kind = k; number = n; fragment = f } ≡ eventOf l
-unfolding eventOf
-event-by b l k n f t ke ne fe i = record { kind = (ke ∙ kind-by b l t) i; number = ne i; fragment = fe i }
 
 -- an event of kind 0 is not well formed
 nothing-asked : (b : Bool) → not (b && false) ≡ false → ⊥

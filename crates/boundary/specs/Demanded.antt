@@ -7,7 +7,7 @@ use Rattle.model.specs.Operations.{Cells}
 use Rattle.model.specs.Refusals.{Call}
 use Rattle.model.specs.declared.Scheme.{Scheme}
 use Rattle.carried.specs.Carried.{returned, RecordRun, onwardR, runsR, freshR, LendsR, AllLendR, CellsHoldR, QueueOrderR, SettlingOrderR, PlainRightR, DependentRightR, sentInR, SeenRightR}
-use Rattle.boundary.specs.Words.{eventOf}
+use Rattle.record.specs.Events.{eventOf}
 
 -- a call of the library: by speculation or by blocking, the words of its event, the cells and the room lent to it
 pub record LibraryCall : Type 0 where

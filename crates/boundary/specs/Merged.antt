@@ -10,7 +10,7 @@ use Rattle.model.specs.Merged.{fragmentsOf}
 use Rattle.model.specs.declared.Fragment.{Fragment}
 use Rattle.carried.specs.Carried.{returned, freshR, sentInR}
 use Rattle.carried.specs.Merged.{takenInR, MergedR}
-use Rattle.boundary.specs.Words.{eventOf}
+use Rattle.record.specs.Events.{eventOf}
 use Rattle.boundary.specs.Demanded.{LibraryCall, asCall, asCalls, runsL, AllLendL}
 
 pub record LibraryOrderMakesNoOdds (cs : Cells) : Type 0 where

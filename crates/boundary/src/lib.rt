@@ -3,52 +3,38 @@
 ghost use mathlib.Core.Path.{_≡_};
 ghost use Rattle.model.specs.Limits.{mostCells, leastRoom, eventWords, answerWords};
 ghost use Rattle.model.specs.declared.Scheme.the-variants.{Speculation, Blocking};
-ghost use Rattle.boundary.specs.Words.{eventOf, recordBytes};
-ghost use Rattle.engine.specs.Called.{Leaves, recordBy, lentCall};
+ghost use Rattle.record.specs.Events.{eventOf};
+ghost use Rattle.boundary.specs.Words.{recordBytes};
+ghost use Rattle.engine.specs.Called.{Leaves};
 ghost use Rattle.boundary.specs.Lent.{started, calledWith};
-use engine::LentCall;
-use model::Event;
 use model::Scheme;
-use record::Counts;
 use record::Record;
 
-// The event that words stand for: 29 of them, or one that is not well formed.
-pub(crate) fn event_of(words: &[u32]) -> Event
-    ensures { λ r. ⌜ r ≡ eventOf (now (words .entry)) ⌝ }
-{
-    let fragment = record::fragment_at(words, 1);
-    let number = operations::number_at(words, 1);
-    if words.len() != model::EVENT_WORDS as usize {
-        return Event {
-            kind: 0,
-            number: number,
-            fragment: fragment,
-        };
-    }
-    Event {
-        kind: operations::number_at(words, 0),
-        number: number,
-        fragment: fragment,
-    }
-}
-
-// A call by a scheme on lent rows, with the event in words.
-pub(crate) fn call_words(
+// One call by a scheme on a lent record: its rows are lent on where they stand, and its counts are stored.
+pub(crate) fn call_on(
     scheme: Scheme,
-    counts: Counts,
-    live: &mut engine::Live,
-    runs: &mut engine::Runs,
-    undo: &mut engine::Undone,
+    r: &mut Record,
     cells: &mut [u32],
     event: &[u32],
     room: &mut [u32],
-) -> LentCall
-    ensures { λ d. ⌜ Leaves scheme (recordBy counts (now (live .entry)) (now (runs .entry)) (now (undo .entry)))
-        (eventOf (now (event .entry))) (now (cells .entry)) (now (room .entry))
-        (lentCall d (now (live .exit)) (now (runs .exit)) (now (undo .exit))) (now (cells .exit)) (now (room .exit)) ⌝ }
+    answers: &mut u32,
+) -> u32
+    ensures { λ n. ⌜ Leaves scheme (now (r .entry)) (eventOf (now (event .entry))) (now (cells .entry)) (now (room .entry))
+        (calledWith n (now (answers .exit)) (now (r .exit))) (now (cells .exit)) (now (room .exit)) ⌝ }
 {
-    let v = event_of(event);
-    engine::call_lent(scheme, counts, live, runs, undo, cells, v, room)
+    let t = engine::call_lent(
+        scheme,
+        r.counts,
+        &mut r.live,
+        &mut r.runs,
+        &mut r.undo,
+        cells,
+        event,
+        room,
+    );
+    r.counts = t.counts;
+    *answers = t.answers;
+    t.number
 }
 
 // Starts a record of so many cells, whatever it held.
@@ -73,19 +59,7 @@ pub extern "C" fn harukdalis_call(
     ensures { λ n. ⌜ Leaves Speculation (now (r .entry)) (eventOf (now (event .entry))) (now (cells .entry)) (now (room .entry))
         (calledWith n (now (answers .exit)) (now (r .exit))) (now (cells .exit)) (now (room .exit)) ⌝ }
 {
-    let t = call_words(
-        Scheme::Speculation,
-        r.counts,
-        &mut r.live,
-        &mut r.runs,
-        &mut r.undo,
-        cells,
-        event,
-        room,
-    );
-    r.counts = t.counts;
-    *answers = t.answers;
-    t.number
+    call_on(Scheme::Speculation, r, cells, event, room, answers)
 }
 
 // The same by blocking. Two functions, so that no word that crosses stands for no scheme.
@@ -100,19 +74,7 @@ pub extern "C" fn harukdalis_call_blocking(
     ensures { λ n. ⌜ Leaves Blocking (now (r .entry)) (eventOf (now (event .entry))) (now (cells .entry)) (now (room .entry))
         (calledWith n (now (answers .exit)) (now (r .exit))) (now (cells .exit)) (now (room .exit)) ⌝ }
 {
-    let t = call_words(
-        Scheme::Blocking,
-        r.counts,
-        &mut r.live,
-        &mut r.runs,
-        &mut r.undo,
-        cells,
-        event,
-        room,
-    );
-    r.counts = t.counts;
-    *answers = t.answers;
-    t.number
+    call_on(Scheme::Blocking, r, cells, event, room, answers)
 }
 
 // The size of the record in bytes.

@@ -23,7 +23,7 @@ use Rattle.record.specs.declared.Record.{Record}
 use Rattle.record.specs.Words.{liveRows}
 use Rattle.record.specs.View.{fragmentAt, waitingOf, numbersFrom, memberAt, uncommittedOf, viewOf, view}
 use Rattle.record.proofs.Rows.{numbers-same, numbers-whole}
-use Rattle.record.proofs.Back.{known-of, view-pack}
+use Rattle.record.proofs.Back.{known-of, view-over, view-pack}
 use Rattle.record.specs.Start.{freshOf}
 use Rattle.engine.specs.Called.{stepped, nextOf, called}
 use Rattle.carried.specs.Carried.{Words, AllWords, returned, roomOf, answerFrom, answerAt, answerOf, answersFrom, answersOf, RecordRun, onwardR, runsR, freshR, LendsR, AllLendR, CellsHoldR, SettlingOrderR, PlainRightR, NoAbortR, DependentRightR, sentInR, SeenRightR, UndisturbedRightR, RecordDemand3}
@@ -40,7 +40,7 @@ all-both P Q (a ∷ l) p q = ((p .0, q .0), all-both P Q l (p .1) (q .1))
 -- One call
 
 -- an unsound record is refused
-accepted-sound : (e : Engine) (c : Call) → refusal e c ≡ 0 → sound e ≡ true
+pub accepted-sound : (e : Engine) (c : Call) → refusal e c ≡ 0 → sound e ≡ true
 accepted-sound e c z = not-false (sound e) (passed e c z .one)
 
 -- what an accepted call leaves, on any record
@@ -55,11 +55,11 @@ pub next-view : (r : Record) (c : Call) → Words (c .event) → view (returned 
 unfolding called stepped step
 next-view r c h = go (refusal (view r) c) refl
   where
-    go : (k : ℕ) → refusal (view r) c ≡ k → view (nextOf r (respond k (view r) c)) ≡ respond k (view r) c .engine
+    go : (k : ℕ) → refusal (view r) c ≡ k → view (nextOf r (c .event) (respond k (view r) c)) ≡ respond k (view r) c .engine
     go zero z =
         let e : Engine = respond 0 (view r) c .engine in
         let f : Fine (taken (c .scheme) (request (c .event)) (view r) (c .lent)) = accepted-fine r c h z in
-        view-pack e (subst (λ (k : ℕ). sound (respond k (view r) c .engine) ≡ true) z (step-keeps (view r) c (accepted-sound (view r) c z) .sound))
+        view-over _ _ _ e (subst (λ (k : ℕ). sound (respond k (view r) c .engine) ≡ true) z (step-keeps (view r) c (accepted-sound (view r) c z) .sound))
         (rows-eight (e .uncommitted) (e .waiting) (f .uncommitted) (f .waiting))
     go (suc k) z = refl
 

@@ -4,3 +4,4 @@ pub mod Carrying
 pub mod Agreeing
 pub mod Merging
 pub mod Starting
+pub mod Bare

@@ -41,11 +41,11 @@ module _ (n : ℕ) (refused : freshOf n .number ≡ 3) where
 
   same-next : (c : Call) → returned (freshOf n .next) c .next ≡ freshOf n .next
   unfolding called stepped
-  same-next c = go (step (view (freshOf n .next)) c .number) (at-none (λ (e : Engine). step e c .number ≡ 0 → ⊥) (never-taken c))
+  same-next c = go _ (step (view (freshOf n .next)) c .number) (at-none (λ (e : Engine). step e c .number ≡ 0 → ⊥) (never-taken c))
     where
-      go : (k : ℕ) → (k ≡ 0 → ⊥) → _≡_ {A = Record} (elim k [ zero ↦ pack (step (view (freshOf n .next)) c .engine) | suc j ↦ freshOf n .next ]) (freshOf n .next)
-      go zero h = absurd (h refl)
-      go (suc k) h = refl
+      go : (x : Record) (k : ℕ) → (k ≡ 0 → ⊥) → _≡_ {A = Record} (elim k [ zero ↦ x | suc j ↦ freshOf n .next ]) (freshOf n .next)
+      go x zero h = absurd (h refl)
+      go x (suc k) h = refl
 
   same-after : (r : RecordRun) (calls : List Call) → r .kept ≡ freshOf n .next → runsR r calls .kept ≡ freshOf n .next
   same-after r [] e = e

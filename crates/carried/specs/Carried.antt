@@ -13,6 +13,7 @@ use Rattle.model.specs.Demand.{Log, noticed, settledOf, liveOf, settledBy, numb
 use Rattle.model.specs.Demand as Demand
 use Rattle.model.specs.declared.Event.{Event}
 use Rattle.record.specs.declared.Record.{Record}
+use Rattle.record.specs.Words.{pack}
 use Rattle.record.specs.View.{view, numbersFrom}
 use Rattle.record.specs.Start.{freshOf}
 use Rattle.engine.specs.Called.{called, cellsAfter, roomAfter}
@@ -162,6 +163,10 @@ pub record RecordDemand3 (cs : Cells) : Type 0 where
       → (between : List Call) → AllWords between → AllLendR (onwardR (runsR (freshR cs) calls) c) between → (d : Call)
       → SeenRightR cs (runsR (freshR cs) calls) (sentInR (freshR cs) calls) c between d
   pub never : (calls : List Call) → AllWords calls → (c : Call) → returned (runsR (freshR cs) calls .kept) c .number ≡ 1 → ⊥
+
+-- every unused place is zero
+abbrev pub Plain : Record → Type 0
+Plain r = r ≡ pack (view r)
 
 -- "a record with 0 cells, which every later call with enough room refuses by 3": after a refused start with n cells and any calls, whatever they were lent
 pub record NotStarted (n : ℕ) : Type 0 where

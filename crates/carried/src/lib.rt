@@ -25,6 +25,7 @@ pub fn call_by(
     let mut live = r.live;
     let mut runs = r.runs;
     let mut undo = r.undo;
+    let words = record::event_words(event);
     let t = engine::call_lent(
         scheme,
         counts,
@@ -32,7 +33,7 @@ pub fn call_by(
         &mut runs,
         &mut undo,
         cells,
-        event,
+        &words,
         room,
     );
     let counts_after = t.counts;

@@ -17,35 +17,25 @@ use Rattle.model.proofs.Chain.{all-map, all-append, all-left, all-right}
 use Rattle.model.proofs.Running.{joinedBy, run-earlier, outcome-earlier, run-few, run-numbers}
 use Rattle.operations.specs.Laid.{padded, flat, entriesOf, laid}
 use Rattle.operations.specs.declared.Ran.{Ran}
-use Rattle.record.specs.Words.{allRows, allRuns, runWords, stateWord, rowOf, liveRows}
-use Rattle.record.specs.View.{numbersFrom}
-use Rattle.record.proofs.Rows.{shift-padded, lay-padded, numbers-padded}
+use Rattle.record.specs.Words.{allRows, allRuns, runWords, stateWord, rowOf, liveRows, over}
+use Rattle.record.specs.View.{numbersFrom, shifted}
+use Rattle.record.proofs.Rows.{lay-over, numbers-padded}
 use Rattle.record.proofs.Back.{length-runs, length-flat, flat-append, entries-back}
 use Rattle.engine.specs.declared.course.Course.{Course}
-use Rattle.engine.specs.Work.{Fair, Dropped, Settled, Committed, Aborted, Continued, leftBy, requeuedAll}
+use Rattle.engine.specs.Work.{Ground, runsGround, undoGround, Fair, Aborted, Continued, leftBy, requeuedAll}
 use Rattle.rows.specs.declared.Trial.{Trial}
 use Rattle.rows.specs.Rows.{trialAt, noTrial, raisedRows, withAnswer, runRow, stateWordAfter, againRow}
 use Rattle.rows.proofs.Rooms.{answered-room, state-word}
 use Rattle.rows.proofs.Reading.{trialOf, trial-back}
 use Rattle.rows.proofs.Raised.{raised-rows}
-use Rattle.engine.proofs.Settling.{run-word, run-over}
+use Rattle.engine.proofs.Settling.{run-word, run-over, long-undo, shift-runs, shift-undo}
 use Rattle.model.specs.Parts.{All}
 use Rattle.record.specs.Fitting.{Eight, Fit, Known}
-use Rattle.record.specs.Widths.{liveWidth, runWidth, liveLength, runsLength, undoLength}
-
-pub committed-both : (live runs undo room runs₁ undo₁ runs₂ undo₂ room₂ : List ℕ) (c c₁ c₂ : Course) → Dropped runs undo c runs₁ undo₁ c₁ → Settled live runs₁ undo₁ room c₁ runs₂ undo₂ room₂ c₂ → Committed live runs undo room c runs₂ undo₂ room₂ c₂
-committed-both live runs undo room runs₁ undo₁ runs₂ undo₂ room₂ c c₁ c₂ one two gone u us ws sent room₀ w k =
-    two (gone ++ (rowOf u ∷ [])) us ws sent room₀ (one live room gone u us ws sent room₀ w k) (k .1)
-
--- all of a row shifted out
-emptied : (n : ℕ) (l : List ℕ) (m : ℕ) → length l ≡ m → m ≤ n → sets (padded n l) 0 (numbersFrom (padded n l) m m) ≡ padded n []
-emptied n l m e h =
-    ap (λ (x : List ℕ). sets (padded n x) 0 (numbersFrom (padded n x) m m)) (sym (append-nil l)) ∙ shift-padded n l [] m m e (ap length (append-nil l) ∙ e) h
+use Rattle.record.specs.Widths.{liveWidth, runWidth}
 
 -- the entries of a row that holds them all
-all-entries : (undo : List ℕ) (us : List Undo) (n : ℕ) → undo ≡ padded undoLength (flat us) → length us ≡ n → entriesOf undo 0 n ≡ us
-all-entries undo us n e en =
-    (λ i. entriesOf (e i) 0 (sym en i)) ∙ ap (λ (x : List Undo). entriesOf (padded undoLength (flat x)) 0 (length us)) (sym (append-nil us)) ∙ entries-back undoLength [] us [] 0 refl
+all-entries : (row undo : List ℕ) (us : List Undo) (n : ℕ) → undo ≡ over row (flat us) → length us ≡ n → entriesOf undo 0 n ≡ us
+all-entries row undo us n e en = (λ i. entriesOf (e i) 0 (sym en i)) ∙ ap (λ (x : List Undo). entriesOf (over row (flat x)) 0 (length us)) (sym (append-nil us)) ∙ entries-back row [] us [] 0 refl
 
 -- those that return keep their fragments
 eights-again : (us : List Uncommitted) (ws : List Waiting) → All Eight (liveRows us ws) → All Eight (map requeued us ++ ws)
@@ -53,10 +43,10 @@ eights-again [] ws h = h
 eights-again (u ∷ us) ws h = (h .0, eights-again us ws (h .1))
 
 pub aborted : (live runs undo live′ runs′ undo′ : List ℕ) (cells cells′ : Cells) (c c′ : Course) → Fair c → cells′ ≡ undone (entriesOf undo 0 (c .entries)) cells
-    → runs′ ≡ sets runs 0 (numbersFrom runs (runWidth * c .counts .uncommitted) (runWidth * c .counts .uncommitted)) → undo′ ≡ sets undo 0 (numbersFrom undo (2 * c .entries) (2 * c .entries))
+    → runs′ ≡ shifted runs (runWidth * c .counts .uncommitted) (runWidth * c .counts .uncommitted) → undo′ ≡ shifted undo (2 * c .entries) (2 * c .entries)
     → live′ ≡ raisedRows live (liveWidth * (c .first + 1)) (c .counts .uncommitted - 1) → c′ ≡ requeuedAll (leftBy c 0) → Aborted live runs undo cells c live′ runs′ undo′ cells′ c′
 unfolding allRuns
-aborted live runs undo live′ runs′ undo′ cells cells′ c c′ fair es er eu el ec room gone u us ws sent room₀ w k few =
+aborted live runs undo live′ runs′ undo′ cells cells′ c c′ fair es er eu el ec room gone u us ws sent came w k within few =
     let fits : All Fit (u ∷ us) = all-map Known Fit (λ v h. h .0) (u ∷ us) k in
     let ahead : List Waiting = gone ++ (rowOf u ∷ []) in
     let rows : gone ++ liveRows (u ∷ us) ws ≡ ahead ++ liveRows us ws = sym (append-assoc gone (rowOf u ∷ []) (liveRows us ws)) in
@@ -64,14 +54,16 @@ aborted live runs undo live′ runs′ undo′ cells cells′ c c′ fair es er 
     let e-ahead : All Eight ahead = all-left Eight ahead (liveRows us ws) eights in
     let e-rest : All Eight (liveRows us ws) = all-right Eight ahead (liveRows us ws) eights in
     let at : liveWidth * length ahead ≡ liveWidth * (c .first + 1) = ap (λ (x : ℕ). liveWidth * x) (length-append gone (rowOf u ∷ []) ∙ ap (λ (x : ℕ). x + 1) (w .first)) in
+    let lr : length (allRuns (u ∷ us)) ≡ runWidth * c .counts .uncommitted = length-runs (u ∷ us) fits ∙ ap (λ (x : ℕ). runWidth * x) (w .uncommitted) in
+    let lf : length (flat (undoList (u ∷ us))) ≡ 2 * c .entries = length-flat (undoList (u ∷ us)) ∙ ap (λ (x : ℕ). 2 * x) (w .entries) in
     let n-us : c .counts .uncommitted - 1 ≡ length us = omega (arith, w .uncommitted) in (
       record {
-        at-live = el ∙ (λ i. raisedRows ((w .at-live ∙ ap (λ (x : List Waiting). padded liveLength (allRows x)) rows) i) (liveWidth * (c .first + 1)) (n-us i))
-            ∙ raised-rows liveLength ahead us ws (liveWidth * (c .first + 1)) e-ahead (all-left Eight (map rowOf us) ws e-rest) few at;
-        at-runs = er ∙ ap (λ (x : List ℕ). sets x 0 (numbersFrom x (runWidth * c .counts .uncommitted) (runWidth * c .counts .uncommitted))) (w .at-runs)
-            ∙ emptied runsLength (allRuns (u ∷ us)) (runWidth * c .counts .uncommitted) (length-runs (u ∷ us) fits ∙ ap (λ (x : ℕ). runWidth * x) (w .uncommitted)) (omega (arith, fair .depth));
-        at-undo = eu ∙ ap (λ (x : List ℕ). sets x 0 (numbersFrom x (2 * c .entries) (2 * c .entries))) (w .at-undo)
-            ∙ emptied undoLength (flat (undoList (u ∷ us))) (2 * c .entries) (length-flat (undoList (u ∷ us)) ∙ ap (λ (x : ℕ). 2 * x) (w .entries)) (omega (arith, fair .entries));
+        at-live = el ∙ (λ i. raisedRows ((w .at-live ∙ ap (λ (x : List Waiting). over (came .live) (allRows x)) rows) i) (liveWidth * (c .first + 1)) (n-us i))
+            ∙ raised-rows (came .live) ahead us ws (liveWidth * (c .first + 1)) e-ahead (all-left Eight (map rowOf us) ws e-rest) few at;
+        at-runs = er ∙ (λ i. shifted ((w .at-runs ∙ ap (over (runsGround came)) (sym (append-nil (allRuns (u ∷ us))))) i) (runWidth * c .counts .uncommitted) (runWidth * c .counts .uncommitted))
+            ∙ shift-runs came (allRuns (u ∷ us)) [] (runWidth * c .counts .uncommitted) (c .counts .uncommitted) lr (ap length (append-nil (allRuns (u ∷ us))) ∙ lr) (within .0);
+        at-undo = eu ∙ (λ i. shifted ((w .at-undo ∙ ap (over (undoGround came)) (sym (append-nil (flat (undoList (u ∷ us)))))) i) (2 * c .entries) (2 * c .entries))
+            ∙ shift-undo came (flat (undoList (u ∷ us))) [] (2 * c .entries) (c .entries) lf (ap length (append-nil (flat (undoList (u ∷ us)))) ∙ lf) (within .1);
         at-room = w .at-room;
         first = length-append gone (rowOf u ∷ []) ∙ ap (λ (x : ℕ). x + 1) (w .first) ∙ sym (ap (λ (x : Course). x .first) ec);
         uncommitted = sym (ap (λ (x : Course). x .counts .uncommitted) ec);
@@ -79,9 +71,8 @@ aborted live runs undo live′ runs′ undo′ cells cells′ c c′ fair es er 
         entries = sym (ap (λ (x : Course). x .entries) ec);
         answers = w .answers ∙ sym (ap (λ (x : Course). x .answers) ec);
         eights = all-append Eight ahead (map requeued us ++ ws) e-ahead (eights-again us ws e-rest);
-        enough = w .enough;
       },
-      es ∙ ap (λ (x : List Undo). undone x cells) (all-entries undo (undoList (u ∷ us)) (c .entries) (w .at-undo) (w .entries)),
+      es ∙ ap (λ (x : List Undo). undone x cells) (all-entries (undoGround came) undo (undoList (u ∷ us)) (c .entries) (w .at-undo) (w .entries)),
     )
 
 -- One more fragment of the front
@@ -105,15 +96,15 @@ first-is u = refl
 module _ (live runs undo room runs′ undo′ room′ : List ℕ) (cells cells′ : Cells) (c c′ : Course) (f : Fragment) (own none : Trial) (entries : ℕ) (r : Ran) (fair : Fair c) (some : 0 < c .counts .uncommitted)
     (en : own ≡ trialAt live (liveWidth * c .first)) (ez : none ≡ noTrial) (er : r ≡ laid (run f cells [])) (ec : cells′ ≡ run f cells (entriesOf undo 0 (c .entries)) .cells)
     (een : entries ≡ pick (eqb (r .place) 0) (c .entries + r .entries) 0)
-    (eu : undo′ ≡ pick (eqb (r .place) 0) (sets undo (2 * c .entries) (numbersFrom (r .undo) 0 (2 * r .entries))) (sets undo 0 (numbersFrom undo (2 * c .entries) (2 * c .entries))))
+    (eu : undo′ ≡ pick (eqb (r .place) 0) (sets undo (2 * c .entries) (numbersFrom (r .undo) 0 (2 * r .entries))) (shifted undo (2 * c .entries) (2 * c .entries)))
     (eruns : runs′ ≡ sets runs 0 (againRow runs f (r .place) entries)) (eroom : room′ ≡ withAnswer (c .answers) own none r room)
     (ecounts : c′ ≡ record { counts = c .counts; first = c .first; entries = entries; answers = c .answers + 1 }) where
   pub continued : Continued live runs undo room cells c f runs′ undo′ room′ cells′ c′
   unfolding laid
-  continued gone u ws sent room₀ k kn few-ran eight few = (
+  continued gone u ws sent came k kn within few-ran eight few = (
     record {
       at-live = k .at-live;
-      at-runs = run-over [] u [] runs 0 tt kn refl (k .at-runs) v (againRow runs f (r .place) entries) runs′ (omega arith) run-is eruns;
+      at-runs = run-over [] u [] runs 0 tt kn refl (runsGround came) (k .at-runs) v (againRow runs f (r .place) entries) runs′ (omega arith) run-is eruns;
       at-undo = undo-is;
       at-room = room-is;
       first = k .first ∙ sym (ap (λ (x : Course). x .first) ecounts);
@@ -122,7 +113,6 @@ module _ (live runs undo room runs′ undo′ room′ : List ℕ) (cells cells�
       entries = ap length (append-nil (run f cells (u .undo) .undo)) ∙ sym entries-is ∙ sym (ap (λ (x : Course). x .entries) ecounts);
       answers = length-append sent (answer (u .number) 0 (u .attempt) 0 (run f cells (u .undo) .outcome) ∷ []) ∙ ap (λ (x : ℕ). x + 1) (k .answers) ∙ sym (ap (λ (x : Course). x .answers) ecounts);
       eights = k .eights;
-      enough = k .enough;
     },
     cells-is,
   )
@@ -134,7 +124,7 @@ module _ (live runs undo room runs′ undo′ room′ : List ℕ) (cells cells�
       whole = ap length (append-nil (u .undo))
 
       entries-own : entriesOf undo 0 (c .entries) ≡ u .undo
-      entries-own = all-entries undo (u .undo ++ []) (c .entries) (k .at-undo) (k .entries) ∙ append-nil (u .undo)
+      entries-own = all-entries (undoGround came) undo (u .undo ++ []) (c .entries) (k .at-undo) (k .entries) ∙ append-nil (u .undo)
 
       cells-is : cells′ ≡ run f cells (u .undo) .cells
       cells-is = ec ∙ ap (λ (x : List Undo). run f cells x .cells) entries-own
@@ -162,29 +152,30 @@ module _ (live runs undo room runs′ undo′ room′ : List ℕ) (cells cells�
           go true e = (λ i. (sym (k .entries) ∙ whole) i + er i .entries) ∙ sym (length-append (u .undo) (run f cells [] .undo)) ∙ sym (ap length (undo-by true e))
           go false e = sym (ap length (undo-by false e))
 
-      undo-is : undo′ ≡ padded undoLength (flat (run f cells (u .undo) .undo ++ []))
-      undo-is = eu ∙ ap (λ (x : ℕ). pick (eqb x 0) (sets undo (2 * c .entries) (numbersFrom (r .undo) 0 (2 * r .entries))) (sets undo 0 (numbersFrom undo (2 * c .entries) (2 * c .entries)))) place-is
-          ∙ go (eqb (run f cells [] .outcome .place) 0) refl ∙ ap (λ (x : List Undo). padded undoLength (flat x)) (sym (append-nil (run f cells (u .undo) .undo)))
+      undo-is : undo′ ≡ over (undoGround came) (flat (run f cells (u .undo) .undo ++ []))
+      undo-is = eu ∙ ap (λ (x : ℕ). pick (eqb x 0) (sets undo (2 * c .entries) (numbersFrom (r .undo) 0 (2 * r .entries))) (shifted undo (2 * c .entries) (2 * c .entries))) place-is
+          ∙ go (eqb (run f cells [] .outcome .place) 0) refl ∙ ap (λ (x : List Undo). over (undoGround came) (flat x)) (sym (append-nil (run f cells (u .undo) .undo)))
         where
           size : length (flat (u .undo ++ [])) ≡ 2 * c .entries
           size = length-flat (u .undo ++ []) ∙ ap (λ (x : ℕ). 2 * x) (k .entries)
 
           go : (b : Bool) → eqb (run f cells [] .outcome .place) 0 ≡ b
-              → pick b (sets undo (2 * c .entries) (numbersFrom (r .undo) 0 (2 * r .entries))) (sets undo 0 (numbersFrom undo (2 * c .entries) (2 * c .entries))) ≡ padded undoLength (flat (run f cells (u .undo) .undo))
+              → pick b (sets undo (2 * c .entries) (numbersFrom (r .undo) 0 (2 * r .entries))) (shifted undo (2 * c .entries) (2 * c .entries)) ≡ over (undoGround came) (flat (run f cells (u .undo) .undo))
           go true e =
               (λ i. sets (k .at-undo i) (2 * c .entries) (own-words i))
-              ∙ lay-padded undoLength (flat (u .undo ++ [])) (flat (run f cells [] .undo)) (2 * c .entries) size (omega (arith, length-flat (run f cells [] .undo), own-few, whole, k .entries, few, few-ran))
-              ∙ ap (padded undoLength) (ap (λ (x : List Undo). flat x ++ flat (run f cells [] .undo)) (append-nil (u .undo)) ∙ sym (flat-append (u .undo) (run f cells [] .undo)) ∙ ap flat (sym (undo-by true e)))
+              ∙ lay-over (undoGround came) (flat (u .undo ++ [])) (flat (run f cells [] .undo)) (2 * c .entries) size (omega (arith, long-undo came, length-flat (run f cells [] .undo), own-few, whole, k .entries, few, few-ran))
+              ∙ ap (over (undoGround came)) (ap (λ (x : List Undo). flat x ++ flat (run f cells [] .undo)) (append-nil (u .undo)) ∙ sym (flat-append (u .undo) (run f cells [] .undo)) ∙ ap flat (sym (undo-by true e)))
           go false e =
-              ap (λ (x : List ℕ). sets x 0 (numbersFrom x (2 * c .entries) (2 * c .entries))) (k .at-undo) ∙ emptied undoLength (flat (u .undo ++ [])) (2 * c .entries) size (omega (arith, fair .entries))
-              ∙ ap (λ (x : List Undo). padded undoLength (flat x)) (sym (undo-by false e))
+              (λ i. shifted ((k .at-undo ∙ ap (over (undoGround came)) (sym (append-nil (flat (u .undo ++ []))))) i) (2 * c .entries) (2 * c .entries))
+              ∙ shift-undo came (flat (u .undo ++ [])) [] (2 * c .entries) (c .entries) size (ap length (append-nil (flat (u .undo ++ []))) ∙ size) (within .1)
+              ∙ ap (λ (x : List Undo). over (undoGround came) (flat x)) (sym (undo-by false e))
 
       run-is : againRow runs f (r .place) entries ≡ runWords v
       run-is = again-words u f (run f cells (u .undo)) (min (getD runs 0 0) 7 + 1) (stateWordAfter (last f) (r .place)) entries ran-is state-is entries-is
         where
           ran-is : min (getD runs 0 0) 7 + 1 ≡ u .ran + 1
           ran-is =
-              let h : getD runs 0 0 ≡ u .ran = run-word [] u [] runs 0 tt kn refl (k .at-runs) 0 (omega arith) ∙ first-is u in
+              let h : getD runs 0 0 ≡ u .ran = run-word [] u [] runs 0 tt kn refl (runsGround came) (k .at-runs) 0 (omega arith) ∙ first-is u in
               omega (arith, h, few-ran)
 
           state-is : stateWordAfter (last f) (r .place) ≡ stateWord (stateAfter f (run f cells (u .undo) .outcome))
@@ -193,12 +184,12 @@ module _ (live runs undo room runs′ undo′ room′ : List ℕ) (cells cells�
       own-is : own ≡ trialOf (rowOf u)
       own-is =
           en ∙ ap (λ (l : List ℕ). trialAt l (liveWidth * c .first)) (k .at-live)
-          ∙ trial-back liveLength gone (rowOf u) (liveRows [] ws) (liveWidth * c .first) (all-left Eight gone (liveRows (u ∷ []) ws) (k .eights)) (all-right Eight gone (liveRows (u ∷ []) ws) (k .eights) .0) (ap (λ (x : ℕ). liveWidth * x) (k .first))
+          ∙ trial-back (came .live) gone (rowOf u) (liveRows [] ws) (liveWidth * c .first) (all-left Eight gone (liveRows (u ∷ []) ws) (k .eights)) (all-right Eight gone (liveRows (u ∷ []) ws) (k .eights) .0) (ap (λ (x : ℕ). liveWidth * x) (k .first))
 
-      room-is : room′ ≡ filled (sent ++ (answer (u .number) 0 (u .attempt) 0 (run f cells (u .undo) .outcome) ∷ [])) room₀
+      room-is : room′ ≡ filled (sent ++ (answer (u .number) 0 (u .attempt) 0 (run f cells (u .undo) .outcome) ∷ [])) (came .room)
       room-is = eroom ∙ (λ i. withAnswer (c .answers) (own-is i) (ez i) r room)
-          ∙ answered-room sent (trialOf (rowOf u)) noTrial (run f cells []) r room room₀ (c .answers) er (omega (arith, run-numbers f cells, few-operations f eight)) (k .at-room) (k .answers) (omega (arith, k .enough, fair .answers, some))
-          ∙ ap (λ (o : Outcome). filled (sent ++ (answer (u .number) 0 (u .attempt) 0 o ∷ [])) room₀) (sym tells)
+          ∙ answered-room sent (trialOf (rowOf u)) noTrial (run f cells []) r room (came .room) (c .answers) er (omega (arith, run-numbers f cells, few-operations f eight)) (k .at-room) (k .answers) (omega (arith, came .enough, fair .answers, some))
+          ∙ ap (λ (o : Outcome). filled (sent ++ (answer (u .number) 0 (u .attempt) 0 o ∷ [])) (came .room)) (sym tells)
 
 -- a run's own entries fit their row of sixteen
 pub entries-by-row : (R : Steps.Ran) (r : Ran) → r ≡ laid R → length (r .undo) ≡ 16 → r .entries ≤ 8

@@ -21,17 +21,17 @@ use Rattle.model.proofs.Branches.{drain-cases}
 use Rattle.model.proofs.Chain.{all-map, all-left, all-right}
 use Rattle.model.proofs.Running.{run-few}
 use Rattle.model.proofs.Keeping.{placed-sound}
-use Rattle.operations.specs.Laid.{padded, laid}
+use Rattle.operations.specs.Laid.{laid}
 use Rattle.operations.specs.declared.Ran.{Ran}
-use Rattle.record.specs.Words.{allRuns, runWords, stateWord}
+use Rattle.record.specs.Words.{allRuns, runWords, stateWord, over}
 use Rattle.record.specs.View.{fragmentAt, numbersFrom}
 use Rattle.record.proofs.Back.{known-of, run-read}
 use Rattle.engine.specs.declared.course.Course.{Course}
-use Rattle.engine.specs.Work.{Small, Work, Took, Drained, joinedBy, settledAtOnce, withAnswers}
+use Rattle.engine.specs.Work.{Small, Ground, runsGround, Work, Took, Drained, joinedBy, settledAtOnce, withAnswers}
 use Rattle.rows.specs.Rows.{blocking, mayTakeRow}
 use Rattle.model.specs.Parts.{All, Sound}
 use Rattle.record.specs.Fitting.{Fit, Known}
-use Rattle.record.specs.Widths.{runWidth, runsLength}
+use Rattle.record.specs.Widths.{runWidth}
 
 -- Course
 
@@ -92,11 +92,11 @@ run-state : (v : Uncommitted) → getD (runWords v) 1 0 ≡ stateWord (v .state)
 unfolding runWords
 run-state v = refl
 
-pub may-take-back : (σ : Scheme) (us : List Uncommitted) (runs : List ℕ) (n : ℕ) → All Known us → runs ≡ padded runsLength (allRuns us) → length us ≡ n → mayTakeRow σ runs n ≡ mayTake σ us
-may-take-back Blocking [] runs n k e en = ap (mayTakeRow Blocking runs) (sym en)
-may-take-back Speculation [] runs n k e en = ap (mayTakeRow Speculation runs) (sym en)
-may-take-back Blocking (u ∷ us) runs n k e en = ap (λ (x : ℕ). eqb x 0) (sym en) ∙ ne-eqb (suc (length us)) 0 (λ z. omega arith)
-may-take-back Speculation (u ∷ us) runs n k e en = ap (mayTakeRow Speculation runs) (sym en) ∙ some ∙ deep (leb 16 (suc (length us))) refl
+pub may-take-back : (σ : Scheme) (us : List Uncommitted) (runs : List ℕ) (n : ℕ) (row : List ℕ) → All Known us → runs ≡ over row (allRuns us) → length us ≡ n → mayTakeRow σ runs n ≡ mayTake σ us
+may-take-back Blocking [] runs n row k e en = ap (mayTakeRow Blocking runs) (sym en)
+may-take-back Speculation [] runs n row k e en = ap (mayTakeRow Speculation runs) (sym en)
+may-take-back Blocking (u ∷ us) runs n row k e en = ap (λ (x : ℕ). eqb x 0) (sym en) ∙ ne-eqb (suc (length us)) 0 (λ z. omega arith)
+may-take-back Speculation (u ∷ us) runs n row k e en = ap (mayTakeRow Speculation runs) (sym en) ∙ some ∙ deep (leb 16 (suc (length us))) refl
   where
     m : ℕ
     m = suc (length us)
@@ -121,8 +121,8 @@ may-take-back Speculation (u ∷ us) runs n k e en = ap (mayTakeRow Speculation 
 
     word-is : getD runs (runWidth * (suc (length us) - 1) + 1) 0 ≡ stateWord (x .tail .state)
     word-is =
-        ap (λ (l : List ℕ). getD l (runWidth * (suc (length us) - 1) + 1) 0) (e ∙ ap (λ (l : List Uncommitted). padded runsLength (allRuns l)) (x .split))
-        ∙ run-read runsLength (x .ahead) (x .tail) [] (runWidth * (suc (length us) - 1)) 1 (all-left Fit (x .ahead) (x .tail ∷ []) fit) (all-right Fit (x .ahead) (x .tail ∷ []) fit .0) far (omega arith)
+        ap (λ (l : List ℕ). getD l (runWidth * (suc (length us) - 1) + 1) 0) (e ∙ ap (λ (l : List Uncommitted). over row (allRuns l)) (x .split))
+        ∙ run-read row (x .ahead) (x .tail) [] (runWidth * (suc (length us) - 1)) 1 (all-left Fit (x .ahead) (x .tail ∷ []) fit) (all-right Fit (x .ahead) (x .tail ∷ []) fit .0) far (omega arith)
         ∙ run-state (x .tail)
 
     deep : (b : Bool) → leb 16 (suc (length us)) ≡ b → rest b ≡ mayTake Speculation (u ∷ us)
@@ -133,26 +133,26 @@ may-take-back Speculation (u ∷ us) runs n k e en = ap (mayTakeRow Speculation 
 
 -- The loop
 
-pub record Mid (σ : Scheme) (live runs undo room : List ℕ) (cells : Cells) (c : Course) (sent : List Answer) (room₀ : List ℕ) (ct top : ℕ) (whole : Queues) : Type 0 where
+pub record Mid (σ : Scheme) (live runs undo room : List ℕ) (cells : Cells) (c : Course) (sent : List Answer) (came : Ground) (ct top : ℕ) (whole : Queues) : Type 0 where
   pub gone : List Waiting
   pub us : List Uncommitted
   pub ws : List Waiting
   pub more : List Answer
   pub names : List ℕ
-  pub work : Work live runs undo room c gone us ws more room₀
+  pub work : Work live runs undo room c gone us ws more came
   pub sound : Sound ct top us ws
   pub rest : sending more names (Steps.drain σ cells us ws) ≡ sending sent [] whole
 
 -- what the loop keeps: wherever it began with lists, it is in the midst of draining them
 abbrev pub Midst : Scheme → List ℕ → List ℕ → List ℕ → List ℕ → Cells → Course → List ℕ → List ℕ → List ℕ → Cells → Course → Type 0
 Midst σ live runs undo room cells c runs′ undo′ room′ cells′ c′ =
-    (gone : List Waiting) (us : List Uncommitted) (ws : List Waiting) (sent : List Answer) (room₀ : List ℕ) → Work live runs undo room c gone us ws sent room₀
-    → (ct top : ℕ) → Sound ct top us ws → Mid σ live runs′ undo′ room′ cells′ c′ sent room₀ ct top (Steps.drain σ cells us ws)
+    (gone : List Waiting) (us : List Uncommitted) (ws : List Waiting) (sent : List Answer) (came : Ground) → Work live runs undo room c gone us ws sent came
+    → (ct top : ℕ) → Sound ct top us ws → Mid σ live runs′ undo′ room′ cells′ c′ sent came ct top (Steps.drain σ cells us ws)
 
 pub midst-start : (σ : Scheme) (live runs undo room : List ℕ) (cells : Cells) (c : Course) → Midst σ live runs undo room cells c runs undo room cells c
-midst-start σ live runs undo room cells c gone us ws sent room₀ w ct top s = record { gone = gone; us = us; ws = ws; more = sent; names = []; work = w; sound = s; rest = refl }
+midst-start σ live runs undo room cells c gone us ws sent came w ct top s = record { gone = gone; us = us; ws = ws; more = sent; names = []; work = w; sound = s; rest = refl }
 
-drain-takes : (σ : Scheme) (cs : Cells) (us : List Uncommitted) (w : Waiting) (ws : List Waiting) → mayTake σ us ≡ true
+pub drain-takes : (σ : Scheme) (cs : Cells) (us : List Uncommitted) (w : Waiting) (ws : List Waiting) → mayTake σ us ≡ true
     → Steps.drain σ cs us (w ∷ ws) ≡ sending (placed us w (run (w .fragment) cs []) .answers) (placed us w (run (w .fragment) cs []) .settles) (Steps.drain σ (run (w .fragment) cs [] .cells) (placed us w (run (w .fragment) cs []) .uncommitted) ws)
 drain-takes σ cs us w ws e = drain-cases (λ (q : Queues). q ≡ taken) σ cs us w ws (λ n. absurd (true≢false (sym e ∙ n))) (λ _. refl)
   where
@@ -172,17 +172,17 @@ sending-more a b m n q = λ i. record { cells = q .cells; uncommitted = q .uncom
 module _ (σ : Scheme) (live runs₀ undo₀ room₀ : List ℕ) (cells₀ : Cells) (c₀ : Course) (runs undo room : List ℕ) (cells : Cells) (c : Course) (mid : Midst σ live runs₀ undo₀ room₀ cells₀ c₀ runs undo room cells c) where
   pub midst-turn : 0 < c .counts .waiting → mayTakeRow σ runs (c .counts .uncommitted) ≡ true → (runs′ undo′ room′ : List ℕ) (cells′ : Cells) (c′ : Course) → Took live runs undo room cells c runs′ undo′ room′ cells′ c′
       → Midst σ live runs₀ undo₀ room₀ cells₀ c₀ runs′ undo′ room′ cells′ c′
-  midst-turn h take runs′ undo′ room′ cells′ c′ took gone us ws sent r₀ w ct top s =
-      let m = mid gone us ws sent r₀ w ct top s in
+  midst-turn h take runs′ undo′ room′ cells′ c′ took gone us ws sent came w ct top s =
+      let m = mid gone us ws sent came w ct top s in
       go (m .ws) m refl
     where
-      go : (l : List Waiting) (m : Mid σ live runs undo room cells c sent r₀ ct top (Steps.drain σ cells₀ us ws)) → m .ws ≡ l → Mid σ live runs′ undo′ room′ cells′ c′ sent r₀ ct top (Steps.drain σ cells₀ us ws)
+      go : (l : List Waiting) (m : Mid σ live runs undo room cells c sent came ct top (Steps.drain σ cells₀ us ws)) → m .ws ≡ l → Mid σ live runs′ undo′ room′ cells′ c′ sent came ct top (Steps.drain σ cells₀ us ws)
       go [] m e = absurd (omega (arith, m .work .waiting, ap length e))
       go (x ∷ l) m e =
-          let wk : Work live runs undo room c (m .gone) (m .us) (x ∷ l) (m .more) r₀ = subst (λ (y : List Waiting). Work live runs undo room c (m .gone) (m .us) y (m .more) r₀) e (m .work) in
+          let wk : Work live runs undo room c (m .gone) (m .us) (x ∷ l) (m .more) came = subst (λ (y : List Waiting). Work live runs undo room c (m .gone) (m .us) y (m .more) came) e (m .work) in
           let sd : Sound ct top (m .us) (x ∷ l) = subst (λ (y : List Waiting). Sound ct top (m .us) y) e (m .sound) in
-          let tk : mayTake σ (m .us) ≡ true = sym (may-take-back σ (m .us) runs (c .counts .uncommitted) (known-of ct (m .us) (m .sound .each)) (m .work .at-runs) (m .work .uncommitted)) ∙ take in
-          let t = took (m .gone) (m .us) x l (m .more) r₀ wk ct top sd σ tk in
+          let tk : mayTake σ (m .us) ≡ true = sym (may-take-back σ (m .us) runs (c .counts .uncommitted) (runsGround came) (known-of ct (m .us) (m .sound .each)) (m .work .at-runs) (m .work .uncommitted)) ∙ take in
+          let t = took (m .gone) (m .us) x l (m .more) came wk ct top sd σ tk in
           record {
             gone = t .gone;
             us = placed (m .us) x (run (x .fragment) cells []) .uncommitted;
@@ -197,8 +197,8 @@ module _ (σ : Scheme) (live runs₀ undo₀ room₀ : List ℕ) (cells₀ : Cel
           }
 
   pub midst-end : (c .counts .waiting ≡ 0) ⊎ (mayTakeRow σ runs (c .counts .uncommitted) ≡ false) → Drained σ live runs₀ undo₀ room₀ cells₀ c₀ runs undo room cells c
-  midst-end stop gone us ws sent r₀ w ct top s =
-      let m = mid gone us ws sent r₀ w ct top s in
+  midst-end stop gone us ws sent came w ct top s =
+      let m = mid gone us ws sent came w ct top s in
       let stays : Steps.drain σ cells (m .us) (m .ws) ≡ record { cells = cells; uncommitted = m .us; waiting = m .ws; answers = []; settles = [] } = drain-stays σ cells (m .us) (m .ws) (why m stop) in
       let e : record { cells = cells; uncommitted = m .us; waiting = m .ws; answers = m .more ++ []; settles = m .names ++ [] } ≡ sending sent [] (Steps.drain σ cells₀ us ws) = ap (sending (m .more) (m .names)) (sym stays) ∙ m .rest in
       record {
@@ -208,17 +208,17 @@ module _ (σ : Scheme) (live runs₀ undo₀ room₀ : List ℕ) (cells₀ : Cel
       }
     where
       finish : (g : List Waiting) (us₁ : List Uncommitted) (ws₁ : List Waiting) (as₁ as₂ : List Answer) (us₂ : List Uncommitted) (ws₂ : List Waiting) → us₁ ≡ us₂ → ws₁ ≡ ws₂ → as₁ ≡ as₂
-          → Work live runs undo room c g us₁ ws₁ as₁ r₀ → Work live runs undo room c g us₂ ws₂ as₂ r₀
+          → Work live runs undo room c g us₁ ws₁ as₁ came → Work live runs undo room c g us₂ ws₂ as₂ came
       finish g us₁ ws₁ as₁ as₂ us₂ ws₂ eu ew ea k =
-          subst (λ (x : List Answer). Work live runs undo room c g us₂ ws₂ x r₀) ea (subst₂ (λ (x : List Uncommitted) (y : List Waiting). Work live runs undo room c g x y as₁ r₀) eu ew k)
+          subst (λ (x : List Answer). Work live runs undo room c g us₂ ws₂ x came) ea (subst₂ (λ (x : List Uncommitted) (y : List Waiting). Work live runs undo room c g x y as₁ came) eu ew k)
 
-      why : (m : Mid σ live runs undo room cells c sent r₀ ct top (Steps.drain σ cells₀ us ws)) → (c .counts .waiting ≡ 0) ⊎ (mayTakeRow σ runs (c .counts .uncommitted) ≡ false) → (m .ws ≡ []) ⊎ (mayTake σ (m .us) ≡ false)
+      why : (m : Mid σ live runs undo room cells c sent came ct top (Steps.drain σ cells₀ us ws)) → (c .counts .waiting ≡ 0) ⊎ (mayTakeRow σ runs (c .counts .uncommitted) ≡ false) → (m .ws ≡ []) ⊎ (mayTake σ (m .us) ≡ false)
       why m (inl z) = inl (none (m .ws) (m .work .waiting ∙ z))
         where
           none : (l : List Waiting) → length l ≡ 0 → l ≡ []
           none [] h = refl
           none (x ∷ l) h = absurd (omega arith)
-      why m (inr z) = inr (sym (may-take-back σ (m .us) runs (c .counts .uncommitted) (known-of ct (m .us) (m .sound .each)) (m .work .at-runs) (m .work .uncommitted)) ∙ z)
+      why m (inr z) = inr (sym (may-take-back σ (m .us) runs (c .counts .uncommitted) (runsGround came) (known-of ct (m .us) (m .sound .each)) (m .work .at-runs) (m .work .uncommitted)) ∙ z)
 
 -- where the drain may go on, fewer than 16 are uncommitted
 pub room-under : (σ : Scheme) (runs : List ℕ) (n : ℕ) → mayTakeRow σ runs n ≡ true → n < 16

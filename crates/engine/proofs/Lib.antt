@@ -7,3 +7,4 @@ pub mod Releasing
 pub mod Deciding
 pub mod Accepting
 pub mod Calling
+mod Alone

@@ -18,14 +18,14 @@ use Rattle.model.proofs.Taking.{may-less}
 use Rattle.model.specs.declared.Undo.{Undo}
 use Rattle.model.proofs.Chain.{all-map, all-left, all-right}
 use Rattle.model.proofs.Keeping as Keeping
-use Rattle.operations.specs.Laid.{padded, flat, laid}
+use Rattle.operations.specs.Laid.{flat, laid}
 use Rattle.operations.specs.declared.Ran.{Ran}
-use Rattle.record.specs.Words.{allRows, runWords, allRuns, rowOf, liveRows, heldOutcome}
+use Rattle.record.specs.Words.{allRows, runWords, allRuns, rowOf, liveRows, heldOutcome, over}
 use Rattle.record.specs.View.{fragmentAt, numbersFrom}
-use Rattle.record.proofs.Rows.{lay-padded, numbers-padded}
+use Rattle.record.proofs.Rows.{lay-over, numbers-padded}
 use Rattle.record.proofs.Back.{known-of, fragment-back, length-run, length-runs, runs-append, undo-append, flat-append, length-flat}
 use Rattle.engine.specs.declared.course.Course.{Course}
-use Rattle.engine.specs.Work.{Work, Left, joinedBy, settledAtOnce, withAnswers, Small}
+use Rattle.engine.specs.Work.{Ground, runsGround, undoGround, Work, Left, joinedBy, settledAtOnce, withAnswers, Small}
 use Rattle.rows.specs.declared.Trial.{Trial}
 use Rattle.rows.specs.Rows.{trialAt, noTrial, oneRows, nearRows, answeredNow, joinsQueue, begunRow, withAnswer}
 use Rattle.rows.proofs.Placed.{placed-by, one-back, nearestTrial, near-all}
@@ -33,7 +33,8 @@ use Rattle.rows.proofs.Reading.{trialOf, trial-back}
 use Rattle.rows.proofs.Rooms.{answered-room, begun-words}
 use Rattle.model.specs.Parts.{All, Sound}
 use Rattle.record.specs.Fitting.{Eight, Fit, Known}
-use Rattle.record.specs.Widths.{liveWidth, runWidth, liveLength, runsLength, undoLength}
+use Rattle.record.specs.Widths.{liveWidth, runWidth}
+use Rattle.engine.proofs.Settling.{long-runs, long-undo}
 
 -- One that ran
 
@@ -50,7 +51,7 @@ pub record Facts (live runs undo room : List ℕ) (cells : Cells) (c : Course) (
   pub multi : m ≡ multi f
   pub last : la ≡ last f
   pub is-one : one ≡ oneRows live (liveWidth * c .first) (c .counts .uncommitted) (f .coordinator)
-  pub is-near : near ≡ nearRows noTrial live (liveWidth * c .first) (c .counts .uncommitted)
+  pub is-near : ans ≡ true → near ≡ nearRows noTrial live (liveWidth * c .first) (c .counts .uncommitted)
   pub is-ans : ans ≡ answeredNow (c .counts .uncommitted) m one
   pub is-joins : joins ≡ joinsQueue (c .counts .uncommitted) m
   pub count : a′ ≡ pick ans (c .answers + 1) (c .answers)
@@ -61,7 +62,7 @@ pub record Facts (live runs undo room : List ℕ) (cells : Cells) (c : Course) (
 
 module _ (live runs undo room : List ℕ) (cells : Cells) (c : Course) (own : Trial) (f : Fragment) (r : Ran) (m la one ans joins : Bool) (near : Trial) (a′ : ℕ) (runs′ undo′ room′ : List ℕ) (cells′ : Cells) (c′ : Course)
     (facts : Facts live runs undo room cells c own f r m la one ans joins near a′ runs′ undo′ room′ cells′ c′) (small : Small c)
-    (gone : List Waiting) (us : List Uncommitted) (w : Waiting) (ws : List Waiting) (sent : List Answer) (room₀ : List ℕ) (work : Work live runs undo room c gone us (w ∷ ws) sent room₀)
+    (gone : List Waiting) (us : List Uncommitted) (w : Waiting) (ws : List Waiting) (sent : List Answer) (came : Ground) (work : Work live runs undo room c gone us (w ∷ ws) sent came)
     (ct top : ℕ) (s : Sound ct top us (w ∷ ws)) (σ : Scheme) (take : mayTake σ us ≡ true) where
   whole : gone ++ liveRows us (w ∷ ws) ≡ (gone ++ map rowOf us) ++ w ∷ ws
   whole = sym (append-assoc gone (map rowOf us) (w ∷ ws))
@@ -84,14 +85,14 @@ module _ (live runs undo room : List ℕ) (cells : Cells) (c : Course) (own : Tr
   at : liveWidth * length (gone ++ map rowOf us) ≡ liveWidth * (c .first + c .counts .uncommitted)
   at = ap (λ (x : ℕ). liveWidth * x) (length-append gone (map rowOf us) ∙ omega (arith, length-map us rowOf, work .first, work .uncommitted))
 
-  at-live : live ≡ padded liveLength (allRows ((gone ++ map rowOf us) ++ w ∷ ws))
-  at-live = work .at-live ∙ ap (λ (x : List Waiting). padded liveLength (allRows x)) whole
+  at-live : live ≡ over (came .live) (allRows ((gone ++ map rowOf us) ++ w ∷ ws))
+  at-live = work .at-live ∙ ap (λ (x : List Waiting). over (came .live) (allRows x)) whole
 
   is-fragment : f ≡ w .fragment
-  is-fragment = facts .fragment ∙ ap (λ (l : List ℕ). fragmentAt l (liveWidth * (c .first + c .counts .uncommitted))) at-live ∙ fragment-back liveLength (gone ++ map rowOf us) w ws (liveWidth * (c .first + c .counts .uncommitted)) eA eW at
+  is-fragment = facts .fragment ∙ ap (λ (l : List ℕ). fragmentAt l (liveWidth * (c .first + c .counts .uncommitted))) at-live ∙ fragment-back (came .live) (gone ++ map rowOf us) w ws (liveWidth * (c .first + c .counts .uncommitted)) eA eW at
 
   is-own : own ≡ trialOf w
-  is-own = facts .tried ∙ ap (λ (l : List ℕ). trialAt l (liveWidth * (c .first + c .counts .uncommitted))) at-live ∙ trial-back liveLength (gone ++ map rowOf us) w ws (liveWidth * (c .first + c .counts .uncommitted)) eA eW at
+  is-own = facts .tried ∙ ap (λ (l : List ℕ). trialAt l (liveWidth * (c .first + c .counts .uncommitted))) at-live ∙ trial-back (came .live) (gone ++ map rowOf us) w ws (liveWidth * (c .first + c .counts .uncommitted)) eA eW at
 
   is-run : r ≡ laid (run (w .fragment) cells [])
   is-run = facts .ran ∙ ap (λ (x : Fragment). laid (run x cells [])) is-fragment
@@ -101,10 +102,10 @@ module _ (live runs undo room : List ℕ) (cells : Cells) (c : Course) (own : Tr
 
   is-one : one ≡ oneCoordinator (w .fragment .coordinator) us
   is-one =
-      facts .is-one ∙ (λ i. oneRows (work .at-live i) (liveWidth * c .first) (sym (work .uncommitted) i) (is-fragment i .coordinator)) ∙ one-back liveLength (w ∷ ws) gone us (liveWidth * c .first) eG eL first-at (w .fragment .coordinator)
+      facts .is-one ∙ (λ i. oneRows (work .at-live i) (liveWidth * c .first) (sym (work .uncommitted) i) (is-fragment i .coordinator)) ∙ one-back (came .live) (w ∷ ws) gone us (liveWidth * c .first) eG eL first-at (w .fragment .coordinator)
 
-  is-near : near ≡ nearestTrial noTrial us
-  is-near = facts .is-near ∙ (λ i. nearRows noTrial (work .at-live i) (liveWidth * c .first) (sym (work .uncommitted) i)) ∙ near-all liveLength (w ∷ ws) gone us (liveWidth * c .first) eG eL first-at noTrial
+  is-near : ans ≡ true → near ≡ nearestTrial noTrial us
+  is-near h = facts .is-near h ∙ (λ i. nearRows noTrial (work .at-live i) (liveWidth * c .first) (sym (work .uncommitted) i)) ∙ near-all (came .live) (w ∷ ws) gone us (liveWidth * c .first) eG eL first-at noTrial
 
   is-multi : m ≡ multi (w .fragment)
   is-multi = facts .multi ∙ ap multi is-fragment
@@ -118,14 +119,14 @@ module _ (live runs undo room : List ℕ) (cells : Cells) (c : Course) (own : Tr
   left : Keeping.Left ct (0 + 8) (run (w .fragment) cells [])
   left = Keeping.ran-left ct (w .fragment) cells [] (s .waiting .0) refl
 
-  room-is : room′ ≡ filled (sent ++ pick ans (answer (w .number) (nearest 0 us) (w .attempt) (nearestAttempt 0 us) (run (w .fragment) cells [] .outcome) ∷ []) []) room₀
-  room-is = facts .is-room ∙ go ans
+  room-is : room′ ≡ filled (sent ++ pick ans (answer (w .number) (nearest 0 us) (w .attempt) (nearestAttempt 0 us) (run (w .fragment) cells [] .outcome) ∷ []) []) (came .room)
+  room-is = facts .is-room ∙ go ans refl
     where
-      go : (b : Bool) → pick b (withAnswer (c .answers) own near r room) room ≡ filled (sent ++ pick b (answer (w .number) (nearest 0 us) (w .attempt) (nearestAttempt 0 us) (run (w .fragment) cells [] .outcome) ∷ []) []) room₀
-      go true =
-          (λ i. withAnswer (c .answers) (is-own i) (is-near i) r room)
-          ∙ answered-room sent (trialOf w) (nearestTrial noTrial us) (run (w .fragment) cells []) r room room₀ (c .answers) is-run (left .numbers) (work .at-room) (work .answers) (omega (arith, work .enough, small .answers, work .waiting))
-      go false = work .at-room ∙ ap (λ (l : List Answer). filled l room₀) (sym (append-nil sent))
+      go : (b : Bool) → ans ≡ b → pick b (withAnswer (c .answers) own near r room) room ≡ filled (sent ++ pick b (answer (w .number) (nearest 0 us) (w .attempt) (nearestAttempt 0 us) (run (w .fragment) cells [] .outcome) ∷ []) []) (came .room)
+      go true h =
+          (λ i. withAnswer (c .answers) (is-own i) (is-near h i) r room)
+          ∙ answered-room sent (trialOf w) (nearestTrial noTrial us) (run (w .fragment) cells []) r room (came .room) (c .answers) is-run (left .numbers) (work .at-room) (work .answers) (omega (arith, came .enough, small .answers, work .waiting))
+      go false h = work .at-room ∙ ap (λ (l : List Answer). filled l (came .room)) (sym (append-nil sent))
 
   count-is : length (sent ++ pick ans (answer (w .number) (nearest 0 us) (w .attempt) (nearestAttempt 0 us) (run (w .fragment) cells [] .outcome) ∷ []) []) ≡ a′
   count-is = go ans ∙ sym (facts .count)
@@ -148,13 +149,13 @@ module _ (live runs undo room : List ℕ) (cells : Cells) (c : Course) (own : Tr
   runs-length : length (allRuns us) ≡ runWidth * c .counts .uncommitted
   runs-length = length-runs us (all-map Known Fit (λ u k. k .0) us (known-of ct us (s .each))) ∙ ap (λ (n : ℕ). runWidth * n) (work .uncommitted)
 
-  runs-is : joins ≡ true → runs′ ≡ padded runsLength (allRuns (us ++ (begun w (run (w .fragment) cells []) (pick (not ans) (Held (run (w .fragment) cells [] .outcome)) Sent) ∷ [])))
+  runs-is : joins ≡ true → runs′ ≡ over (runsGround came) (allRuns (us ++ (begun w (run (w .fragment) cells []) (pick (not ans) (Held (run (w .fragment) cells [] .outcome)) Sent) ∷ [])))
   unfolding allRuns
   runs-is j =
       facts .is-runs ∙ ap (λ (b : Bool). pick b (sets runs (runWidth * c .counts .uncommitted) (begunRow (not ans) la r)) runs) j
       ∙ (λ i. sets (work .at-runs i) (runWidth * c .counts .uncommitted) (begun-words w (run (w .fragment) cells []) r la (not ans) is-run (facts .last ∙ ap last is-fragment) i))
-      ∙ lay-padded runsLength (allRuns us) (runWords v) (runWidth * c .counts .uncommitted) runs-length (omega (arith, length-run v fit-v, few-us, work .uncommitted))
-      ∙ ap (padded runsLength) (ap (λ (l : List ℕ). allRuns us ++ l) (sym (append-nil (runWords v))) ∙ sym (runs-append us (v ∷ [])))
+      ∙ lay-over (runsGround came) (allRuns us) (runWords v) (runWidth * c .counts .uncommitted) runs-length (omega (arith, long-runs came, length-run v fit-v, few-us, work .uncommitted))
+      ∙ ap (over (runsGround came)) (ap (λ (l : List ℕ). allRuns us ++ l) (sym (append-nil (runWords v))) ∙ sym (runs-append us (v ∷ [])))
     where
       fit-v : Fit v
       fit-v = go (not ans)
@@ -171,23 +172,23 @@ module _ (live runs undo room : List ℕ) (cells : Cells) (c : Course) (own : Tr
   undo-joined : undoList (us ++ (begun w (run (w .fragment) cells []) (pick (not ans) (Held (run (w .fragment) cells [] .outcome)) Sent) ∷ [])) ≡ undoList us ++ run (w .fragment) cells [] .undo
   undo-joined = undo-append us (v ∷ []) ∙ ap (λ (l : List Undo). undoList us ++ l) (append-nil (run (w .fragment) cells [] .undo))
 
-  undo-is : joins ≡ true → undo′ ≡ padded undoLength (flat (undoList (us ++ (begun w (run (w .fragment) cells []) (pick (not ans) (Held (run (w .fragment) cells [] .outcome)) Sent) ∷ []))))
+  undo-is : joins ≡ true → undo′ ≡ over (undoGround came) (flat (undoList (us ++ (begun w (run (w .fragment) cells []) (pick (not ans) (Held (run (w .fragment) cells [] .outcome)) Sent) ∷ []))))
   undo-is j =
       facts .is-undo ∙ ap (λ (b : Bool). pick b (sets undo (2 * c .entries) (numbersFrom (r .undo) 0 (2 * r .entries))) undo) j
       ∙ (λ i. sets (work .at-undo i) (2 * c .entries) (own-entries i))
-      ∙ lay-padded undoLength (flat (undoList us)) (flat (run (w .fragment) cells [] .undo)) (2 * c .entries) (length-flat (undoList us) ∙ ap (λ (n : ℕ). 2 * n) (work .entries))
-      (omega (arith, length-flat (run (w .fragment) cells [] .undo), left .few, small .entries, few-us, work .uncommitted))
-      ∙ ap (padded undoLength) (sym (flat-append (undoList us) (run (w .fragment) cells [] .undo)) ∙ ap flat (sym undo-joined))
+      ∙ lay-over (undoGround came) (flat (undoList us)) (flat (run (w .fragment) cells [] .undo)) (2 * c .entries) (length-flat (undoList us) ∙ ap (λ (n : ℕ). 2 * n) (work .entries))
+      (omega (arith, long-undo came, length-flat (run (w .fragment) cells [] .undo), left .few, small .entries, few-us, work .uncommitted))
+      ∙ ap (over (undoGround came)) (sym (flat-append (undoList us) (run (w .fragment) cells [] .undo)) ∙ ap flat (sym undo-joined))
 
   joins-work : joins ≡ true → Work live runs′ undo′ room′ c′ gone (us ++ (begun w (run (w .fragment) cells []) (pick (not ans) (Held (run (w .fragment) cells [] .outcome)) Sent) ∷ [])) ws
-      (sent ++ pick ans (answer (w .number) (nearest 0 us) (w .attempt) (nearestAttempt 0 us) (run (w .fragment) cells [] .outcome) ∷ []) []) room₀
+      (sent ++ pick ans (answer (w .number) (nearest 0 us) (w .attempt) (nearestAttempt 0 us) (run (w .fragment) cells [] .outcome) ∷ []) []) came
   unfolding laid
   joins-work j =
       let e : c′ ≡ joinedBy (withAnswers a′ c) r = facts .counts ∙ ap (λ (b : Bool). pick b (joinedBy (withAnswers a′ c) r) (settledAtOnce (withAnswers a′ c))) j in
       let rows : liveRows (us ++ (v ∷ [])) ws ≡ liveRows us (w ∷ ws) = rows-joined us w ws v refl in
       let n : r .entries ≡ length (run (w .fragment) cells [] .undo) = ap (λ (x : Ran). x .entries) is-run in
       record {
-        at-live = work .at-live ∙ ap (λ (l : List Waiting). padded liveLength (allRows (gone ++ l))) (sym rows);
+        at-live = work .at-live ∙ ap (λ (l : List Waiting). over (came .live) (allRows (gone ++ l))) (sym rows);
         at-runs = runs-is j;
         at-undo = undo-is j;
         at-room = room-is;
@@ -197,18 +198,17 @@ module _ (live runs undo room : List ℕ) (cells : Cells) (c : Course) (own : Tr
         entries = ap length undo-joined ∙ length-append (undoList us) (run (w .fragment) cells [] .undo) ∙ (λ i. work .entries i + sym n i) ∙ sym (ap (λ (x : Course). x .entries) e);
         answers = count-is ∙ sym (ap (λ (x : Course). x .answers) e);
         eights = subst (λ (l : List Waiting). All Eight (gone ++ l)) (sym rows) (work .eights);
-        enough = work .enough;
       }
 
   -- it settles at once, with nothing uncommitted
   settles-work : us ≡ [] → joins ≡ false → Work live runs′ undo′ room′ c′ (gone ++ (w ∷ [])) us ws
-      (sent ++ pick ans (answer (w .number) (nearest 0 us) (w .attempt) (nearestAttempt 0 us) (run (w .fragment) cells [] .outcome) ∷ []) []) room₀
+      (sent ++ pick ans (answer (w .number) (nearest 0 us) (w .attempt) (nearestAttempt 0 us) (run (w .fragment) cells [] .outcome) ∷ []) []) came
   settles-work z j =
       let e : c′ ≡ settledAtOnce (withAnswers a′ c) = facts .counts ∙ ap (λ (b : Bool). pick b (joinedBy (withAnswers a′ c) r) (settledAtOnce (withAnswers a′ c))) j in
       let rows : gone ++ liveRows us (w ∷ ws) ≡ (gone ++ (w ∷ [])) ++ liveRows us ws =
       ap (λ (l : List Uncommitted). gone ++ liveRows l (w ∷ ws)) z ∙ sym (append-assoc gone (w ∷ []) ws) ∙ ap (λ (l : List Uncommitted). (gone ++ (w ∷ [])) ++ liveRows l ws) (sym z) in
       record {
-        at-live = work .at-live ∙ ap (λ (l : List Waiting). padded liveLength (allRows l)) rows;
+        at-live = work .at-live ∙ ap (λ (l : List Waiting). over (came .live) (allRows l)) rows;
         at-runs = facts .is-runs ∙ ap (λ (b : Bool). pick b (sets runs (runWidth * c .counts .uncommitted) (begunRow (not ans) la r)) runs) j ∙ work .at-runs;
         at-undo = facts .is-undo ∙ ap (λ (b : Bool). pick b (sets undo (2 * c .entries) (numbersFrom (r .undo) 0 (2 * r .entries))) undo) j ∙ work .at-undo;
         at-room = room-is;
@@ -218,10 +218,9 @@ module _ (live runs undo room : List ℕ) (cells : Cells) (c : Course) (own : Tr
         entries = omega (arith, work .entries, ap (λ (x : Course). x .entries) e);
         answers = count-is ∙ sym (ap (λ (x : Course). x .answers) e);
         eights = subst (All Eight) rows (work .eights);
-        enough = work .enough;
       }
 
-  pub take-first-left : Left live runs′ undo′ room′ c′ cells′ sent room₀
+  pub take-first-left : Left live runs′ undo′ room′ c′ cells′ sent came
       (record { cells = run (w .fragment) cells [] .cells; uncommitted = placed us w (run (w .fragment) cells []) .uncommitted; waiting = ws; answers = placed us w (run (w .fragment) cells []) .answers; settles = placed us w (run (w .fragment) cells []) .settles })
   take-first-left = go joins refl
     where
@@ -240,16 +239,16 @@ module _ (live runs undo room : List ℕ) (cells : Cells) (c : Course) (own : Tr
       none (u ∷ l) h = absurd (true≢false (sym (ap (λ (b : Bool). not b || multi (w .fragment)) (ne-eqb (suc (length l)) 0 (λ e. omega arith))) ∙ h))
 
       work-at : (us′ : List Uncommitted) (as′ : List Answer) (gone′ : List Waiting) → placed us w (run (w .fragment) cells []) .uncommitted ≡ us′ → placed us w (run (w .fragment) cells []) .answers ≡ as′
-          → Work live runs′ undo′ room′ c′ gone′ us′ ws (sent ++ as′) room₀
-          → Left live runs′ undo′ room′ c′ cells′ sent room₀
+          → Work live runs′ undo′ room′ c′ gone′ us′ ws (sent ++ as′) came
+          → Left live runs′ undo′ room′ c′ cells′ sent came
           (record { cells = run (w .fragment) cells [] .cells; uncommitted = placed us w (run (w .fragment) cells []) .uncommitted; waiting = ws; answers = placed us w (run (w .fragment) cells []) .answers; settles = placed us w (run (w .fragment) cells []) .settles })
       work-at us′ as′ gone′ eu ea k = record {
         gone = gone′;
-        work = subst₂ (λ (x : List Uncommitted) (y : List Answer). Work live runs′ undo′ room′ c′ gone′ x ws (sent ++ y) room₀) (sym eu) (sym ea) k;
+        work = subst₂ (λ (x : List Uncommitted) (y : List Answer). Work live runs′ undo′ room′ c′ gone′ x ws (sent ++ y) came) (sym eu) (sym ea) k;
         stands = st;
       }
 
-      go : (b : Bool) → joins ≡ b → Left live runs′ undo′ room′ c′ cells′ sent room₀
+      go : (b : Bool) → joins ≡ b → Left live runs′ undo′ room′ c′ cells′ sent came
           (record { cells = run (w .fragment) cells [] .cells; uncommitted = placed us w (run (w .fragment) cells []) .uncommitted; waiting = ws; answers = placed us w (run (w .fragment) cells []) .answers; settles = placed us w (run (w .fragment) cells []) .settles })
       go true j = work-at _ _ gone (ap (λ (x : Place). x .uncommitted) p ∙ ap (λ (b : Bool). pick b (us ++ (v ∷ [])) us) j) (ap (λ (x : Place). x .answers) p) (joins-work j)
       go false j = work-at _ _ (gone ++ (w ∷ [])) (ap (λ (x : Place). x .uncommitted) p ∙ ap (λ (b : Bool). pick b (us ++ (v ∷ [])) us) j) (ap (λ (x : Place). x .answers) p) (settles-work (none us (sym is-joins ∙ j)) j)

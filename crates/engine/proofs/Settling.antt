@@ -1,14 +1,13 @@
--- Settling, in plain terms: the first of the queue leaves it, singles settle until a multi is first, the new front is answered.
+-- Settling, in plain terms: the front leaves, singles settle behind it until a multi is first, and then the rows of all of them go at once.
 use Prim.Native.Nat.{ℕ, suc, _+_, _*_, _-_, _%_, min, _≤_, _<_}
 use native.Mathlib.Omega.{arith}
-use borrow.Author.Tests.{not-false}
-use mathlib.Core.Path.{_≡_, refl, sym, ap, _∙_, subst}
+use mathlib.Core.Path.{_≡_, refl, sym, ap, _∙_, subst, subst₂}
 use mathlib.Core.Bool.{Bool, true, false, not, true≢false}
 use mathlib.Core.Logic.{_⊎_, inl, inr}
-use mathlib.Core.List.{List, [], _∷_, _++_, append-assoc, append-nil}
+use mathlib.Core.List.{List, [], _∷_, _++_, append-assoc, append-nil, map}
 use lib.Dec.{eqb}
-use lib.ListN.{length, getD, take, drop, replicate, length-append, List·getD-append}
-use lib.Seq.{sets, sets-eq, take-at, drop-at, getD-append-add}
+use lib.ListN.{length, getD, replicate, length-append, length-map, List·getD-append}
+use lib.Seq.{sets, getD-append-add}
 use Rattle.model.specs.Limits.{answerWords}
 use Rattle.model.specs.Operations.{Outcome, pick, multi}
 use Rattle.model.specs.Transactions.{Reply, Held, Sent, NoReply, Uncommitted, Waiting, Answer, answer, words, undoList, filled, front}
@@ -16,12 +15,12 @@ use Rattle.model.specs.Steps.{heldBy, sent, Place, released, settled}
 use Rattle.model.proofs.Chain.{all-map, all-left, all-right}
 use Rattle.operations.specs.Laid.{padded, flat}
 use Rattle.operations.proofs.Turns.{length-padded}
-use Rattle.record.specs.Words.{rowWords, allRows, stateWord, replyWord, heldOutcome, outcomeWords, runWords, allRuns, rowOf, liveRows}
-use Rattle.record.specs.View.{numbersFrom}
-use Rattle.record.proofs.Rows.{shift-padded, numbers-same, numbers-whole}
-use Rattle.record.proofs.Back.{row-read, length-run, length-runs, runs-append, run-read, length-flat, flat-append}
+use Rattle.record.specs.Words.{rowWords, allRows, stateWord, replyWord, heldOutcome, outcomeWords, runWords, allRuns, rowOf, liveRows, over, cleared}
+use Rattle.record.specs.View.{numbersFrom, shifted}
+use Rattle.record.proofs.Rows.{relay-over, shift-over, cleared-zero, length-cleared, numbers-same, numbers-whole}
+use Rattle.record.proofs.Back.{row-read, length-run, length-runs, runs-append, run-read, length-flat, flat-append, undo-append}
 use Rattle.engine.specs.declared.course.Course.{Course}
-use Rattle.engine.specs.Work.{heldUnder, Work, Fair, Dropped, SettledOne, SettledTo, Singles, Fronted, Settled, leftBy, withAnswers}
+use Rattle.engine.specs.Work.{heldUnder, Ground, runsGround, undoGround, Within, Work, Fair, stood, Standing, SettledOne, SettledTo, Singles, Fronted, Committed, leftBy, withAnswers}
 use Rattle.rows.specs.declared.Trial.{Trial}
 use Rattle.rows.specs.Rows.{trialAt, noTrial, holdsRow, heldRow, multiRow, sentRow, runRow}
 use Rattle.rows.proofs.Reading.{trialOf, trial-back}
@@ -29,7 +28,7 @@ use Rattle.rows.proofs.Rooms.{answer-row, room-more}
 use Rattle.model.specs.Parts.{All}
 use Rattle.model.specs.Refusals.{isReply}
 use Rattle.record.specs.Fitting.{Eight, Fit, Known}
-use Rattle.record.specs.Widths.{liveWidth, runWidth, liveLength, runsLength, undoLength}
+use Rattle.record.specs.Widths.{liveWidth, runWidth, entryWidth, runsLength, undoLength}
 
 run-word-2 : (u : Uncommitted) → getD (runWords u) 2 0 ≡ replyWord (u .reply)
 unfolding runWords
@@ -43,52 +42,65 @@ sent-words : (u : Uncommitted) → runRow (getD (runWords u) 0 0) (getD (runWord
 unfolding runWords padded
 sent-words u = refl
 
--- words laid over others of the same length in a row
-sets-middle : (a x z w : List ℕ) → length x ≡ length w → sets (a ++ (x ++ z)) (length a) w ≡ a ++ (w ++ z)
-sets-middle a x z w e =
-    let n : length a + length w ≡ length (a ++ x) = omega (arith, length-append a x) in
-    let l : List ℕ = a ++ (x ++ z) in
-    sets-eq w l (length a) (omega (arith, length-append a (x ++ z), length-append x z)) ∙ append-assoc (take (length a) l) w (drop (length a + length w) l)
-    ∙ (λ i. take-at a (x ++ z) (length a) refl i ++ (w ++ (ap (λ (k : ℕ). drop k l) n ∙ ap (drop (length (a ++ x))) (sym (append-assoc a x z)) ∙ drop-at (a ++ x) z (length (a ++ x)) refl) i))
+-- Rows that runs and entries are laid over
 
--- The first of the queue leaves it
+pub long-runs : (came : Ground) → length (runsGround came) ≡ runsLength
+long-runs came = length-cleared (runWidth * came .uncommitted) (came .runs) (omega (arith, came .few, came .long-runs)) ∙ came .long-runs
 
-pub dropped : (runs undo runs′ undo′ : List ℕ) (c c′ : Course) (own e : ℕ) → Fair c → own ≡ getD runs 3 0 → e ≡ min own (c .entries)
-    → runs′ ≡ sets runs 0 (numbersFrom runs runWidth (runWidth * c .counts .uncommitted)) → undo′ ≡ sets undo 0 (numbersFrom undo (2 * e) (2 * c .entries))
-    → c′ ≡ leftBy c e
-    → Dropped runs undo c runs′ undo′ c′
-unfolding allRuns
-dropped runs undo runs′ undo′ c c′ own e fair eo ee er eu ec live room gone u us ws sent room₀ w k =
-    let fits : All Fit (u ∷ us) = all-map Known Fit (λ v h. h .0) (u ∷ us) k in
-    let lu : length (runWords u) ≡ runWidth = length-run u (fits .0) in
-    let own-is : own ≡ length (u .undo) = eo ∙ ap (λ (l : List ℕ). getD l 3 0) (w .at-runs) ∙ run-read runsLength [] u us 0 3 tt (fits .0) refl (omega arith) ∙ run-word-3 u in
-    let total : c .entries ≡ length (u .undo) + length (undoList us) = sym (w .entries) ∙ length-append (u .undo) (undoList us) in
-    let e-is : e ≡ length (u .undo) = ee ∙ omega arith in
-    let nu : suc (length us) ≡ c .counts .uncommitted = w .uncommitted in
-    let all-length : length (runWords u ++ allRuns us) ≡ runWidth * c .counts .uncommitted = length-runs (u ∷ us) fits ∙ ap (λ (x : ℕ). runWidth * x) (w .uncommitted) in
-    let flat-is : flat (undoList (u ∷ us)) ≡ flat (u .undo) ++ flat (undoList us) = flat-append (u .undo) (undoList us) in
-    let rows : gone ++ liveRows (u ∷ us) ws ≡ (gone ++ (rowOf u ∷ [])) ++ liveRows us ws = sym (append-assoc gone (rowOf u ∷ []) (liveRows us ws)) in
-    record {
-      at-live = w .at-live ∙ ap (λ (x : List Waiting). padded liveLength (allRows x)) rows;
-      at-runs = er ∙ ap (λ (x : List ℕ). sets x 0 (numbersFrom x runWidth (runWidth * c .counts .uncommitted))) (w .at-runs) ∙ shift-padded runsLength (runWords u) (allRuns us) 16 (runWidth * c .counts .uncommitted) lu all-length (omega (arith, fair .depth));
-      at-undo = eu ∙ (λ i. sets (w .at-undo i) 0 (numbersFrom (w .at-undo i) (2 * e-is i) (2 * c .entries)))
-          ∙ ap (λ (x : List ℕ). sets (padded undoLength x) 0 (numbersFrom (padded undoLength x) (2 * length (u .undo)) (2 * c .entries))) flat-is
-          ∙ shift-padded undoLength (flat (u .undo)) (flat (undoList us)) (2 * length (u .undo)) (2 * c .entries) (length-flat (u .undo)) (sym (ap length flat-is) ∙ length-flat (undoList (u ∷ us)) ∙ ap (λ (x : ℕ). 2 * x) (w .entries)) (omega (arith, fair .entries));
-      at-room = w .at-room;
-      first = length-append gone (rowOf u ∷ []) ∙ ap (λ (x : ℕ). x + 1) (w .first) ∙ sym (ap (λ (x : Course). x .first) ec);
-      uncommitted = omega (arith, w .uncommitted, ap (λ (x : Course). x .counts .uncommitted) ec);
-      waiting = w .waiting ∙ sym (ap (λ (x : Course). x .counts .waiting) ec);
-      entries = omega (arith, total, e-is, ap (λ (x : Course). x .entries) ec);
-      answers = w .answers ∙ sym (ap (λ (x : Course). x .answers) ec);
-      eights = subst (All Eight) rows (w .eights);
-      enough = w .enough;
-    }
+pub long-undo : (came : Ground) → length (undoGround came) ≡ undoLength
+long-undo came = length-cleared (entryWidth * came .entries) (came .undo) (omega (arith, came .few-entries, came .long-undo)) ∙ came .long-undo
+
+-- the first runs shifted out, and the first entries
+pub shift-runs : (came : Ground) (a b : List ℕ) (k n : ℕ) → length a ≡ k → length (a ++ b) ≡ runWidth * n → n ≤ came .uncommitted → shifted (over (runsGround came) (a ++ b)) k (runWidth * n) ≡ over (runsGround came) b
+shift-runs came a b k n ea eb h =
+    shift-over (runsGround came) a b k (runWidth * n) ea eb (omega (arith, long-runs came, came .few, h)) (λ x hx. cleared-zero (runWidth * came .uncommitted) (came .runs) x (omega (arith, h)))
+
+pub shift-undo : (came : Ground) (a b : List ℕ) (k n : ℕ) → length a ≡ k → length (a ++ b) ≡ 2 * n → n ≤ came .entries → shifted (over (undoGround came) (a ++ b)) k (2 * n) ≡ over (undoGround came) b
+shift-undo came a b k n ea eb h =
+    shift-over (undoGround came) a b k (2 * n) ea eb (omega (arith, long-undo came, came .few-entries, h)) (λ x hx. cleared-zero (entryWidth * came .entries) (came .undo) x (omega (arith, h)))
+
+-- The one behind P in the rows
+
+pub live-split : (P : List Uncommitted) (u : Uncommitted) (us : List Uncommitted) (ws : List Waiting) → liveRows (P ++ u ∷ us) ws ≡ map rowOf P ++ (rowOf u ∷ liveRows us ws)
+live-split [] u us ws = refl
+live-split (p ∷ P) u us ws = ap {B = List Waiting} (λ (l : List Waiting). rowOf p ∷ l) (live-split P u us ws)
+
+module _ (live runs undo room : List ℕ) (c : Course) (gone : List Waiting) (P : List Uncommitted) (u : Uncommitted) (us : List Uncommitted) (ws : List Waiting) (sent′ : List Answer) (came : Ground)
+    (w : Work live runs undo room c gone (P ++ u ∷ us) ws sent′ came) (i : ℕ) (ei : length P ≡ i) where
+  abbrev ahead : List Waiting
+  ahead = gone ++ map rowOf P
+
+  rows : gone ++ liveRows (P ++ u ∷ us) ws ≡ ahead ++ (rowOf u ∷ liveRows us ws)
+  rows = ap (λ (l : List Waiting). gone ++ l) (live-split P u us ws) ∙ sym (append-assoc gone (map rowOf P) (rowOf u ∷ liveRows us ws))
+
+  eights : All Eight (ahead ++ (rowOf u ∷ liveRows us ws))
+  eights = subst (All Eight) rows (w .eights)
+
+  place : liveWidth * length ahead ≡ liveWidth * (c .first + i)
+  place = ap (λ (x : ℕ). liveWidth * x) (omega (arith, length-append gone (map rowOf P), length-map P rowOf, w .first, ei))
+
+  at-live : live ≡ over (came .live) (allRows (ahead ++ (rowOf u ∷ liveRows us ws)))
+  at-live = w .at-live ∙ ap (λ (x : List Waiting). over (came .live) (allRows x)) rows
+
+  word : (j : ℕ) → j < liveWidth → getD live (liveWidth * (c .first + i) + j) 0 ≡ getD (rowWords (u .number) (u .attempt) (u .first)) j 0
+  word j h = ap (λ (l : List ℕ). getD l (liveWidth * (c .first + i) + j) 0) at-live ∙ row-read (came .live) ahead (rowOf u) (liveRows us ws) (liveWidth * (c .first + i)) (all-left Eight ahead _ eights) (all-right Eight ahead _ eights .0) place j h
+
+  pub trial-there : trialAt live (liveWidth * (c .first + i)) ≡ trialOf (rowOf u)
+  trial-there = ap (λ (l : List ℕ). trialAt l (liveWidth * (c .first + i))) at-live ∙ trial-back (came .live) ahead (rowOf u) (liveRows us ws) (liveWidth * (c .first + i)) (all-left Eight ahead _ eights) (all-right Eight ahead _ eights .0) place
+
+  pub multi-at : multiRow live (liveWidth * (c .first + i)) ≡ multi (u .first)
+  unfolding rowWords multi
+  multi-at = ap (λ (x : ℕ). eqb (x % 2) 1) (word 1 (omega arith))
+
+  pub coordinator-at : getD live (liveWidth * (c .first + i) + 2) 0 ≡ u .first .coordinator
+  unfolding rowWords
+  coordinator-at = word 2 (omega arith)
 
 -- What a run holds: that of the one behind P, whose words start at b
 
-module _ (P : List Uncommitted) (u : Uncommitted) (us : List Uncommitted) (runs : List ℕ) (b : ℕ) (fp : All Fit P) (k : Known u) (eb : runWidth * length P ≡ b) (e : runs ≡ padded runsLength (allRuns (P ++ u ∷ us))) where
+module _ (P : List Uncommitted) (u : Uncommitted) (us : List Uncommitted) (runs : List ℕ) (b : ℕ) (fp : All Fit P) (k : Known u) (eb : runWidth * length P ≡ b) (row : List ℕ) (e : runs ≡ over row (allRuns (P ++ u ∷ us))) where
   pub run-word : (j : ℕ) → j < runWidth → getD runs (b + j) 0 ≡ getD (runWords u) j 0
-  run-word j h = ap (λ (l : List ℕ). getD l (b + j) 0) e ∙ run-read runsLength P u us b j fp (k .0) eb h
+  run-word j h = ap (λ (l : List ℕ). getD l (b + j) 0) e ∙ run-read row P u us b j fp (k .0) eb h
 
   held-words : numbersFrom runs (b + 4) 10 ≡ outcomeWords (heldOutcome (u .reply))
   unfolding runWords
@@ -135,26 +147,14 @@ module _ (P : List Uncommitted) (u : Uncommitted) (us : List Uncommitted) (runs 
       go NoReply q r z = absurd (true≢false (sym r))
 
   -- another run laid over its own
-  pub run-over : (v : Uncommitted) (w runs′ : List ℕ) → Fit v → w ≡ runWords v → runs′ ≡ sets runs b w → runs′ ≡ padded runsLength (allRuns (P ++ v ∷ us))
-  unfolding padded allRuns
+  pub run-over : (v : Uncommitted) (w runs′ : List ℕ) → Fit v → w ≡ runWords v → runs′ ≡ sets runs b w → runs′ ≡ over row (allRuns (P ++ v ∷ us))
+  unfolding allRuns
   run-over v w runs′ fit ew h =
-      let lu : length (runWords u) ≡ runWidth = length-run u (k .0) in
-      let lv : length (runWords v) ≡ runWidth = length-run v fit in
-      let lp : length (allRuns P) ≡ b = length-runs P fp ∙ eb in
-      let rest : List ℕ = allRuns us ++ replicate (runsLength - length (allRuns (P ++ u ∷ us))) 0 in
-      let shape : padded runsLength (allRuns (P ++ u ∷ us)) ≡ allRuns P ++ (runWords u ++ rest) =
-      ap (λ (l : List ℕ). l ++ replicate (runsLength - length (allRuns (P ++ u ∷ us))) 0) (runs-append P (u ∷ us)) ∙ append-assoc (allRuns P) (runWords u ++ allRuns us) (replicate (runsLength - length (allRuns (P ++ u ∷ us))) 0)
-      ∙ ap (λ (l : List ℕ). allRuns P ++ l) (append-assoc (runWords u) (allRuns us) (replicate (runsLength - length (allRuns (P ++ u ∷ us))) 0)) in
-      let size : length (allRuns (P ++ u ∷ us)) ≡ length (allRuns (P ++ v ∷ us)) =
-      omega (arith, ap length (runs-append P (u ∷ us)), ap length (runs-append P (v ∷ us)), length-append (allRuns P) (runWords u ++ allRuns us), length-append (allRuns P) (runWords v ++ allRuns us), length-append (runWords u) (allRuns us), length-append (runWords v) (allRuns us), lu, lv) in
-      h ∙ (λ i. sets ((e ∙ shape) i) (sym lp i) (ew i)) ∙ sets-middle (allRuns P) (runWords u) rest (runWords v) (lu ∙ sym lv)
-      ∙ ap (λ (l : List ℕ). allRuns P ++ l) (sym (append-assoc (runWords v) (allRuns us) (replicate (runsLength - length (allRuns (P ++ u ∷ us))) 0)))
-      ∙ sym (append-assoc (allRuns P) (runWords v ++ allRuns us) (replicate (runsLength - length (allRuns (P ++ u ∷ us))) 0))
-      ∙ ap (λ (l : List ℕ). l ++ replicate (runsLength - length (allRuns (P ++ u ∷ us))) 0) (sym (runs-append P (v ∷ us)))
-      ∙ ap (λ (n : ℕ). allRuns (P ++ v ∷ us) ++ replicate (runsLength - n) 0) size
+      h ∙ (λ i. sets ((e ∙ ap (over row) (runs-append P (u ∷ us))) i) b (ew i)) ∙ relay-over row (allRuns P) (runWords u) (allRuns us) (runWords v) b (length-runs P fp ∙ eb) (length-run u (k .0) ∙ sym (length-run v fit))
+      ∙ ap (over row) (sym (runs-append P (v ∷ us)))
 
   -- its run once its answer is sent
-  pub sent-runs : (runs′ : List ℕ) → runs′ ≡ sets runs b (sentRow runs b) → runs′ ≡ padded runsLength (allRuns (P ++ sent u ∷ us))
+  pub sent-runs : (runs′ : List ℕ) → runs′ ≡ sets runs b (sentRow runs b) → runs′ ≡ over row (allRuns (P ++ sent u ∷ us))
   sent-runs runs′ h =
       let zero-word : getD runs b 0 ≡ getD (runWords u) 0 0 = (let z : b ≡ b + 0 = omega arith in ap (λ (x : ℕ). getD runs x 0) z) ∙ run-word 0 (omega arith) in
       run-over (sent u) (sentRow runs b) runs′ (omega arith)
@@ -168,115 +168,220 @@ settled-single u us e =
       | false ↦ record { uncommitted = settled us .uncommitted; answers = heldBy u ++ settled us .answers; settles = u .number ∷ settled us .settles }
     ]) e
 
--- One settles
+-- One settles: it leaves the queue, and what it held is in the room
 
-module _ (live runs undo room runs′ undo′ room′ : List ℕ) (c d c′ : Course) (own none : Trial) (a : ℕ) (fair : Fair c) (some : 0 < c .counts .uncommitted)
-    (en : own ≡ trialAt live (liveWidth * c .first)) (ea : a ≡ pick (holdsRow runs 0) (c .answers + 1) (c .answers))
-    (er : room′ ≡ pick (holdsRow runs 0) (sets room (answerWords * c .answers) (heldRow runs 0 own none)) room) (ez : none ≡ noTrial) where
-  sent-none : room′ ≡ pick (holdsRow runs 0) (sets room (answerWords * c .answers) (heldRow runs 0 own noTrial)) room
-  sent-none = er ∙ ap (λ (t : Trial). pick (holdsRow runs 0) (sets room (answerWords * c .answers) (heldRow runs 0 own t)) room) ez
+undo-one : (P : List Uncommitted) (u : Uncommitted) (us : List Uncommitted) → (P ++ (u ∷ [])) ++ us ≡ P ++ u ∷ us
+undo-one P u us = append-assoc P (u ∷ []) us
 
-  -- the transaction in the front's row, and its held answer in the room
-  front-trial : (gone : List Waiting) (u : Uncommitted) (us : List Uncommitted) (ws : List Waiting) (sent : List Answer) (room₀ : List ℕ) → Work live runs undo room c gone (u ∷ us) ws sent room₀ → own ≡ trialOf (rowOf u)
-  front-trial gone u us ws sent room₀ w =
-      en ∙ ap (λ (l : List ℕ). trialAt l (liveWidth * c .first)) (w .at-live)
-      ∙ trial-back liveLength gone (rowOf u) (liveRows us ws) (liveWidth * c .first) (all-left Eight gone (liveRows (u ∷ us) ws) (w .eights)) (all-right Eight gone (liveRows (u ∷ us) ws) (w .eights) .0) (ap (λ (x : ℕ). liveWidth * x) (w .first))
+-- a course with the same counts holds the same rows
+moved : (live runs undo room : List ℕ) (c d : Course) (gone : List Waiting) (us vs : List Uncommitted) (ws : List Waiting) (sent : List Answer) (came : Ground) → Work live runs undo room (stood c us) gone us ws sent came → us ≡ vs
+    → d .counts .waiting ≡ c .counts .waiting → d .answers ≡ c .answers → Work live runs undo room (stood d vs) gone vs ws sent came
+moved live runs undo room c d gone us vs ws sent came w e ew ea =
+    subst (λ (l : List Uncommitted). Work live runs undo room (stood d l) gone l ws sent came) e
+    (record {
+      at-live = w .at-live;
+      at-runs = w .at-runs;
+      at-undo = w .at-undo;
+      at-room = w .at-room;
+      first = w .first;
+      uncommitted = refl;
+      waiting = w .waiting ∙ sym ew;
+      entries = refl;
+      answers = w .answers ∙ sym ea;
+      eights = w .eights;
+    })
 
-  fits : (gone : List Waiting) (u : Uncommitted) (us : List Uncommitted) (ws : List Waiting) (sent : List Answer) (room₀ : List ℕ) → Work live runs undo room c gone (u ∷ us) ws sent room₀ → answerWords * (c .answers + 1) ≤ length room₀
-  fits gone u us ws sent room₀ w = omega (arith, w .enough, fair .answers, some)
+-- the first of us leaves, with its own entries
+pub leaves-standing : (live runs undo room : List ℕ) (c d : Course) (P : List Uncommitted) (u : Uncommitted) (us : List Uncommitted) (ws : List Waiting) (sent : List Answer) (came : Ground) (e : ℕ) → Standing live runs undo room c P (u ∷ us) ws sent came
+    → e ≡ min (getD runs (runWidth * c .first + 3) 0) (c .entries) → d ≡ leftBy c e → Standing live runs undo room d (P ++ (u ∷ [])) us ws sent came
+leaves-standing live runs undo room c d P u us ws sent came e s ee ed =
+    let fits : All Fit (P ++ u ∷ us) = all-map Known Fit (λ v h. h .0) (P ++ u ∷ us) (s .known) in
+    let own : getD runs (runWidth * c .first + 3) 0 ≡ length (u .undo) =
+    run-word P u us runs (runWidth * c .first) (all-left Fit P (u ∷ us) fits) (all-right Known P (u ∷ us) (s .known) .0) (ap (λ (x : ℕ). runWidth * x) (s .first)) (runsGround came) (s .work .at-runs) 3 (omega arith) ∙ run-word-3 u in
+    let total : length (u .undo ++ undoList us) ≡ length (u .undo) + length (undoList us) = length-append (u .undo) (undoList us) in
+    let d1 : d .first ≡ c .first + 1 = ap (λ (x : Course). x .first) ed in
+    let d2 : d .counts .uncommitted ≡ c .counts .uncommitted - 1 = ap (λ (x : Course). x .counts .uncommitted) ed in
+    let d3 : d .entries ≡ c .entries - e = ap (λ (x : Course). x .entries) ed in
+    record {
+      work = moved live runs undo room c d [] (P ++ u ∷ us) ((P ++ (u ∷ [])) ++ us) ws sent came (s .work) (sym (undo-one P u us)) (ap (λ (x : Course). x .counts .waiting) ed) (ap (λ (x : Course). x .answers) ed);
+      first = length-append P (u ∷ []) ∙ omega (arith, s .first, d1);
+      uncommitted = omega (arith, s .uncommitted, d2);
+      entries = omega (arith, s .entries, total, own, ee, d3);
+      known = subst (All Known) (sym (undo-one P u us)) (s .known);
+    }
 
-  pub settled-one : Dropped runs undo c runs′ undo′ d → c′ ≡ withAnswers a d → SettledOne live runs undo room c runs′ undo′ room′ c′
-  settled-one drop ec gone u us ws sent room₀ w k =
-      let x = drop live room gone u us ws sent room₀ w k in
+module _ (live runs room room′ : List ℕ) (c d c′ : Course) (own none : Trial) (e a : ℕ) (fair : Fair c) (some : 0 < c .counts .uncommitted)
+    (en : own ≡ trialAt live (liveWidth * c .first)) (ea : a ≡ pick (holdsRow runs (runWidth * c .first)) (c .answers + 1) (c .answers))
+    (er : room′ ≡ pick (holdsRow runs (runWidth * c .first)) (sets room (answerWords * c .answers) (heldRow runs (runWidth * c .first) own none)) room) (ez : none ≡ noTrial)
+    (ee : e ≡ min (getD runs (runWidth * c .first + 3) 0) (c .entries)) (ed : d ≡ leftBy c e) (ec : c′ ≡ withAnswers a d) where
+  sent-none : room′ ≡ pick (holdsRow runs (runWidth * c .first)) (sets room (answerWords * c .answers) (heldRow runs (runWidth * c .first) own noTrial)) room
+  sent-none = er ∙ ap (λ (t : Trial). pick (holdsRow runs (runWidth * c .first)) (sets room (answerWords * c .answers) (heldRow runs (runWidth * c .first) own t)) room) ez
+
+  pub settled-one : SettledOne live runs room c room′ c′
+  settled-one undo P u us ws sent came s =
+      let x = leaves-standing live runs undo room c d P u us ws sent came e s ee ed in
+      let w = s .work in
+      let fits : All Fit P = all-map Known Fit (λ v h. h .0) P (all-left Known P (u ∷ us) (s .known)) in
+      let ku : Known u = all-right Known P (u ∷ us) (s .known) .0 in
+      let b : runWidth * length P ≡ runWidth * c .first = ap (λ (y : ℕ). runWidth * y) (s .first) in
+      let z : liveWidth * c .first ≡ liveWidth * (0 + c .first) = omega arith in
+      let tr : own ≡ trialOf (rowOf u) = en ∙ ap (trialAt live) z ∙ trial-there live runs undo room (stood c (P ++ u ∷ us)) [] P u us ws sent came w (c .first) (s .first) in
       record {
-        at-live = x .at-live;
-        at-runs = x .at-runs;
-        at-undo = x .at-undo;
-        at-room = held-room [] u us runs 0 tt (k .0) refl (w .at-runs) noTrial sent room room′ room₀ (c .answers) own (front-trial gone u us ws sent room₀ w) (w .at-room) (w .answers) (fits gone u us ws sent room₀ w) sent-none;
+        work = record {
+          at-live = x .work .at-live;
+          at-runs = x .work .at-runs;
+          at-undo = x .work .at-undo;
+          at-room = held-room P u us runs (runWidth * c .first) fits ku b (runsGround came) (w .at-runs) noTrial sent room room′ (came .room) (c .answers) own tr (w .at-room) (w .answers) (omega (arith, came .enough, fair .answers, some)) sent-none;
+          first = refl;
+          uncommitted = refl;
+          waiting = x .work .waiting ∙ sym (ap (λ (y : Course). y .counts .waiting) ec);
+          entries = refl;
+          answers = held-count P u us runs (runWidth * c .first) fits ku b (runsGround came) (w .at-runs) noTrial sent (c .answers) a (w .answers) ea ∙ sym (ap (λ (y : Course). y .answers) ec);
+          eights = x .work .eights;
+        };
         first = x .first ∙ sym (ap (λ (y : Course). y .first) ec);
         uncommitted = x .uncommitted ∙ sym (ap (λ (y : Course). y .counts .uncommitted) ec);
-        waiting = x .waiting ∙ sym (ap (λ (y : Course). y .counts .waiting) ec);
         entries = x .entries ∙ sym (ap (λ (y : Course). y .entries) ec);
-        answers = held-count [] u us runs 0 tt (k .0) refl (w .at-runs) noTrial sent (c .answers) a (w .answers) ea ∙ sym (ap (λ (y : Course). y .answers) ec);
-        eights = x .eights;
-        enough = x .enough;
+        known = x .known;
       }
 
-  pub settled-fair : Fair d → d .answers ≡ c .answers → d .counts .uncommitted + 1 ≡ c .counts .uncommitted → d .counts .waiting ≡ c .counts .waiting → c′ ≡ withAnswers a d → Fair c′
-  settled-fair f e1 e2 e3 ec = go (holdsRow runs 0) ea
+  pub settled-fair : Fair c′ × ((c′ .counts .uncommitted + 1 ≡ c .counts .uncommitted) × (c′ .entries ≤ c .entries))
+  settled-fair = go (holdsRow runs (runWidth * c .first)) ea
     where
-      go : (b : Bool) → a ≡ pick b (c .answers + 1) (c .answers) → Fair c′
+      under : (b : Bool) → a ≡ pick b (c .answers + 1) (c .answers) → a ≤ c .answers + 1
+      under true h = omega arith
+      under false h = omega arith
+
+      go : (b : Bool) → a ≡ pick b (c .answers + 1) (c .answers) → Fair c′ × ((c′ .counts .uncommitted + 1 ≡ c .counts .uncommitted) × (c′ .entries ≤ c .entries))
       go b h =
           let less : a ≤ c .answers + 1 = under b h in
-          let h1 : c′ .first ≡ d .first = ap (λ (y : Course). y .first) ec in
-          let h2 : c′ .counts .uncommitted ≡ d .counts .uncommitted = ap (λ (y : Course). y .counts .uncommitted) ec in
-          let h3 : c′ .counts .waiting ≡ d .counts .waiting = ap (λ (y : Course). y .counts .waiting) ec in
-          let h4 : c′ .entries ≡ d .entries = ap (λ (y : Course). y .entries) ec in
-          let h5 : c′ .answers ≡ a = ap (λ (y : Course). y .answers) ec in
-          record { live = omega (arith, f .live); answers = omega (arith, fair .answers); depth = omega (arith, f .depth); entries = omega (arith, f .entries) }
-        where
-          under : (b : Bool) → a ≡ pick b (c .answers + 1) (c .answers) → a ≤ c .answers + 1
-          under true h = omega arith
-          under false h = omega arith
+          let all : c′ ≡ withAnswers a (leftBy c e) = ec ∙ ap (withAnswers a) ed in
+          let h1 : c′ .first ≡ c .first + 1 = ap (λ (y : Course). y .first) all in
+          let h2 : c′ .counts .uncommitted ≡ c .counts .uncommitted - 1 = ap (λ (y : Course). y .counts .uncommitted) all in
+          let h3 : c′ .counts .waiting ≡ c .counts .waiting = ap (λ (y : Course). y .counts .waiting) all in
+          let h4 : c′ .entries ≡ c .entries - e = ap (λ (y : Course). y .entries) all in
+          let h5 : c′ .answers ≡ a = ap (λ (y : Course). y .answers) all in
+          (record { live = omega (arith, fair .live); answers = omega (arith, fair .answers); depth = omega (arith, fair .depth); entries = omega (arith, fair .entries) }, (omega arith, omega arith))
+
+pub left-fair : (c d : Course) (e : ℕ) → Fair c → 0 < c .counts .uncommitted → d ≡ leftBy c e → Fair d
+left-fair c d e fair some ed =
+    let h1 : d .first ≡ c .first + 1 = ap (λ (y : Course). y .first) ed in
+    let h2 : d .counts .uncommitted ≡ c .counts .uncommitted - 1 = ap (λ (y : Course). y .counts .uncommitted) ed in
+    let h3 : d .counts .waiting ≡ c .counts .waiting = ap (λ (y : Course). y .counts .waiting) ed in
+    let h4 : d .entries ≡ c .entries - e = ap (λ (y : Course). y .entries) ed in
+    let h5 : d .answers ≡ c .answers = ap (λ (y : Course). y .answers) ed in
+    record { live = omega (arith, fair .live); answers = omega (arith, fair .answers); depth = omega (arith, fair .depth); entries = omega (arith, fair .entries) }
 
 -- Singles settle until a multi is first
 
--- is the front's row a multi's
-pub front-row : (live runs undo room : List ℕ) (c : Course) (gone : List Waiting) (u : Uncommitted) (us : List Uncommitted) (ws : List Waiting) (sent : List Answer) (room₀ : List ℕ) → Work live runs undo room c gone (u ∷ us) ws sent room₀
+-- is the row of the first that is left a multi's
+front-row : (live runs undo room : List ℕ) (c : Course) (P : List Uncommitted) (u : Uncommitted) (us : List Uncommitted) (ws : List Waiting) (sent : List Answer) (came : Ground) → Standing live runs undo room c P (u ∷ us) ws sent came
     → multiRow live (liveWidth * c .first) ≡ multi (u .first)
-unfolding rowWords multi
-front-row live runs undo room c gone u us ws sent room₀ w =
-    ap (λ (l : List ℕ). multiRow l (liveWidth * c .first)) (w .at-live)
-    ∙ ap (λ (x : ℕ). eqb (x % 2) 1) (row-read liveLength gone (rowOf u) (liveRows us ws) (liveWidth * c .first) (all-left Eight gone (liveRows (u ∷ us) ws) (w .eights)) (all-right Eight gone (liveRows (u ∷ us) ws) (w .eights) .0) (ap (λ (x : ℕ). liveWidth * x) (w .first)) 1 (omega arith))
+front-row live runs undo room c P u us ws sent came s =
+    let z : liveWidth * c .first ≡ liveWidth * (0 + c .first) = omega arith in
+    ap (multiRow live) z ∙ multi-at live runs undo room (stood c (P ++ u ∷ us)) [] P u us ws sent came (s .work) (c .first) (s .first)
 
 -- what the loop keeps
-abbrev pub Midway : List ℕ → List ℕ → List ℕ → List ℕ → Course → List ℕ → List ℕ → List ℕ → Course → Type 0
-Midway live runs undo room c runs′ undo′ room′ c′ =
-    (gone : List Waiting) (us : List Uncommitted) (ws : List Waiting) (sent : List Answer) (room₀ : List ℕ) → Work live runs undo room c gone us ws sent room₀ → All Known us → SettledTo live runs′ undo′ room′ c′ us ws sent room₀
+abbrev pub Midway : List ℕ → List ℕ → List ℕ → Course → List ℕ → Course → Type 0
+Midway live runs room c room′ c′ =
+    (undo : List ℕ) (P us : List Uncommitted) (ws : List Waiting) (sent : List Answer) (came : Ground) → Standing live runs undo room c P us ws sent came → SettledTo live runs undo room′ c′ P us ws sent came
 
-pub midway-start : (live runs undo room : List ℕ) (c : Course) → Midway live runs undo room c runs undo room c
-midway-start live runs undo room c gone us ws sent room₀ w k =
-    record { gone = gone; left = us; more = []; names = []; work = subst (λ (x : List Answer). Work live runs undo room c gone us ws x room₀) (sym (append-nil sent)) w; known = k; rest = refl }
+pub midway-start : (live runs room : List ℕ) (c : Course) → Midway live runs room c room c
+midway-start live runs room c undo P us ws sent came s =
+    record { settledOnes = []; left = us; more = []; names = []; split = refl; standing = subst₂ (λ (x : List Uncommitted) (y : List Answer). Standing live runs undo room c x us ws y came) (sym (append-nil P)) (sym (append-nil sent)) s; rest = refl }
 
-module _ (live runs₀ undo₀ room₀ runs undo room : List ℕ) (c₀ c : Course) (mid : Midway live runs₀ undo₀ room₀ c₀ runs undo room c) where
-  pub midway-turn : 0 < c .counts .uncommitted → multiRow live (liveWidth * c .first) ≡ false → (runs′ undo′ room′ : List ℕ) (c′ : Course) → SettledOne live runs undo room c runs′ undo′ room′ c′ → Midway live runs₀ undo₀ room₀ c₀ runs′ undo′ room′ c′
-  midway-turn some single runs′ undo′ room′ c′ one gone us ws sent r₀ w k = let m = mid gone us ws sent r₀ w k in go (m .left) m refl
+module _ (live runs room₀ room : List ℕ) (c₀ c : Course) (mid : Midway live runs room₀ c₀ room c) where
+  pub midway-turn : 0 < c .counts .uncommitted → multiRow live (liveWidth * c .first) ≡ false → (room′ : List ℕ) (c′ : Course) → SettledOne live runs room c room′ c′ → Midway live runs room₀ c₀ room′ c′
+  midway-turn some single room′ c′ one undo P us ws sent came s = let m = mid undo P us ws sent came s in go (m .left) m refl
     where
-      go : (l : List Uncommitted) (m : SettledTo live runs undo room c us ws sent r₀) → m .left ≡ l → SettledTo live runs′ undo′ room′ c′ us ws sent r₀
-      go [] m e = absurd (omega (arith, m .work .uncommitted, ap length e))
+      go : (l : List Uncommitted) (m : SettledTo live runs undo room c P us ws sent came) → m .left ≡ l → SettledTo live runs undo room′ c′ P us ws sent came
+      go [] m e = absurd (omega (arith, m .standing .uncommitted, ap length e))
       go (u ∷ l) m e =
-          let wk : Work live runs undo room c (m .gone) (u ∷ l) ws (sent ++ m .more) r₀ = subst (λ (x : List Uncommitted). Work live runs undo room c (m .gone) x ws (sent ++ m .more) r₀) e (m .work) in
-          let kn : All Known (u ∷ l) = subst (All Known) e (m .known) in
-          let sg : multi (u .first) ≡ false = sym (front-row live runs undo room c (m .gone) u l ws (sent ++ m .more) r₀ wk) ∙ single in
+          let st : Standing live runs undo room c (P ++ m .settledOnes) (u ∷ l) ws (sent ++ m .more) came = subst (λ (x : List Uncommitted). Standing live runs undo room c (P ++ m .settledOnes) x ws (sent ++ m .more) came) e (m .standing) in
+          let sg : multi (u .first) ≡ false = sym (front-row live runs undo room c (P ++ m .settledOnes) u l ws (sent ++ m .more) came st) ∙ single in
           record {
-            gone = m .gone ++ (rowOf u ∷ []);
+            settledOnes = m .settledOnes ++ (u ∷ []);
             left = l;
             more = m .more ++ heldBy u;
             names = m .names ++ (u .number ∷ []);
-            work = subst (λ (x : List Answer). Work live runs′ undo′ room′ c′ (m .gone ++ (rowOf u ∷ [])) l ws x r₀) (append-assoc sent (m .more) (heldBy u)) (one (m .gone) u l ws (sent ++ m .more) r₀ wk kn);
-            known = kn .1;
+            split = m .split ∙ ap (λ (x : List Uncommitted). m .settledOnes ++ x) e ∙ sym (append-assoc (m .settledOnes) (u ∷ []) l);
+            standing = subst₂ (λ (x : List Uncommitted) (y : List Answer). Standing live runs undo room′ c′ x l ws y came) (append-assoc P (m .settledOnes) (u ∷ [])) (append-assoc sent (m .more) (heldBy u))
+                (one undo (P ++ m .settledOnes) u l ws (sent ++ m .more) came st);
             rest = m .rest ∙ ap (λ (x : List Uncommitted). record { uncommitted = settled x .uncommitted; answers = m .more ++ settled x .answers; settles = m .names ++ settled x .settles }) e
                 ∙ ap {B = Place} (λ (p : Place). record { uncommitted = p .uncommitted; answers = m .more ++ p .answers; settles = m .names ++ p .settles }) (settled-single u l sg)
                 ∙ (λ i. record { uncommitted = settled l .uncommitted; answers = sym (append-assoc (m .more) (heldBy u) (settled l .answers)) i; settles = sym (append-assoc (m .names) (u .number ∷ []) (settled l .settles)) i });
           }
 
-  pub midway-end : (c .counts .uncommitted ≡ 0) ⊎ (multiRow live (liveWidth * c .first) ≡ true) → Singles live runs₀ undo₀ room₀ c₀ runs undo room c
-  midway-end stop gone us ws sent r₀ w k = let m = mid gone us ws sent r₀ w k in (m, go (m .left) refl m stop)
+  pub midway-end : (c .counts .uncommitted ≡ 0) ⊎ (multiRow live (liveWidth * c .first) ≡ true) → Singles live runs room₀ c₀ room c
+  midway-end stop undo P us ws sent came s = let m = mid undo P us ws sent came s in (m, by (m .settledOnes) (m .left) (m .standing) stop)
     where
-      go : (l : List Uncommitted) {m′ : List Uncommitted} → m′ ≡ l → (m : SettledTo live runs undo room c us ws sent r₀) → (c .counts .uncommitted ≡ 0) ⊎ (multiRow live (liveWidth * c .first) ≡ true) → front (λ (u : Uncommitted). not (multi (u .first))) (m .left) ≡ false
-      go l e m s = by (m .left) (m .work) s
-        where
-          by : (x : List Uncommitted) → Work live runs undo room c (m .gone) x ws (sent ++ m .more) r₀ → (c .counts .uncommitted ≡ 0) ⊎ (multiRow live (liveWidth * c .first) ≡ true) → front (λ (u : Uncommitted). not (multi (u .first))) x ≡ false
-          by [] w s = refl
-          by (u ∷ x) w (inl z) = absurd (omega (arith, w .uncommitted, z))
-          by (u ∷ x) w (inr z) = ap not (sym (front-row live runs undo room c (m .gone) u x ws (sent ++ m .more) r₀ w) ∙ z)
+      by : (x l : List Uncommitted) {told : List Answer} → Standing live runs undo room c (P ++ x) l ws told came → (c .counts .uncommitted ≡ 0) ⊎ (multiRow live (liveWidth * c .first) ≡ true) → front (λ (u : Uncommitted). not (multi (u .first))) l ≡ false
+      by x [] s z = refl
+      by x (u ∷ l) s (inl z) = absurd (omega (arith, s .uncommitted, z))
+      by x (u ∷ l) {told = told} s (inr z) = ap not (sym (front-row live runs undo room c (P ++ x) u l ws told came s) ∙ z)
 
--- the two parts of settling
-pub settled-both : (live runs undo room runs₁ undo₁ room₁ runs₂ room₂ : List ℕ) (c c₁ c₂ : Course) → Singles live runs undo room c runs₁ undo₁ room₁ c₁ → Fronted live runs₁ room₁ c₁ runs₂ room₂ c₂ → Settled live runs undo room c runs₂ undo₁ room₂ c₂
-settled-both live runs undo room runs₁ undo₁ room₁ runs₂ room₂ c c₁ c₂ one two gone us ws sent room₀ w k =
-    let s = one gone us ws sent room₀ w k in
-    let m = s .0 in (
-      m .gone,
-      subst (λ (p : Place). Work live runs₂ undo₁ room₂ c₂ (m .gone) (p .uncommitted) ws (sent ++ p .answers) room₀) (sym (m .rest))
-          (subst (λ (x : List Answer). Work live runs₂ undo₁ room₂ c₂ (m .gone) (settled (m .left) .uncommitted) ws x room₀) (append-assoc sent (m .more) (settled (m .left) .answers)) (two undo₁ (m .gone) (m .left) ws (sent ++ m .more) room₀ (m .work) (m .known) (s .1))),
+-- The rows of those that settled are shifted out at once
+
+-- what stands of a row that holds them, shifted
+pub standing-left : (live runs undo room runs′ undo′ : List ℕ) (c d : Course) (P us : List Uncommitted) (ws : List Waiting) (sent : List Answer) (came : Ground) → Standing live runs undo room d P us ws sent came → Within came c
+    → length (P ++ us) ≡ c .counts .uncommitted → length (undoList (P ++ us)) ≡ c .entries
+    → runs′ ≡ shifted runs (runWidth * d .first) (runWidth * c .counts .uncommitted) → undo′ ≡ shifted undo (2 * (c .entries - d .entries)) (2 * c .entries) → Work live runs′ undo′ room d (map rowOf P) us ws sent came
+standing-left live runs undo room runs′ undo′ c d P us ws sent came s within eu ee er ed =
+    let w = s .work in
+    let fits : All Fit (P ++ us) = all-map Known Fit (λ v h. h .0) (P ++ us) (s .known) in
+    let rows : liveRows (P ++ us) ws ≡ map rowOf P ++ liveRows us ws = ap (λ (l : List Waiting). l ++ ws) (mathlib.Core.List.map-append rowOf P us) ∙ append-assoc (map rowOf P) (map rowOf us) ws in
+    let lp : length (allRuns P) ≡ runWidth * d .first = length-runs P (all-left Fit P us fits) ∙ ap (λ (x : ℕ). runWidth * x) (s .first) in
+    let la : length (allRuns P ++ allRuns us) ≡ runWidth * c .counts .uncommitted = ap length (sym (runs-append P us)) ∙ length-runs (P ++ us) fits ∙ ap (λ (x : ℕ). runWidth * x) eu in
+    let flat-is : flat (undoList (P ++ us)) ≡ flat (undoList P) ++ flat (undoList us) = ap flat (undo-append P us) ∙ flat-append (undoList P) (undoList us) in
+    let total : c .entries ≡ length (undoList P) + length (undoList us) = sym ee ∙ ap length (undo-append P us) ∙ length-append (undoList P) (undoList us) in
+    let lf : length (flat (undoList P)) ≡ 2 * (c .entries - d .entries) = length-flat (undoList P) ∙ omega (arith, total, s .entries) in
+    let lg : length (flat (undoList P) ++ flat (undoList us)) ≡ 2 * c .entries = ap length (sym flat-is) ∙ length-flat (undoList (P ++ us)) ∙ ap (λ (x : ℕ). 2 * x) ee in
+    record {
+      at-live = w .at-live ∙ ap (λ (x : List Waiting). over (came .live) (allRows x)) rows;
+      at-runs = er ∙ ap (λ (x : List ℕ). shifted x (runWidth * d .first) (runWidth * c .counts .uncommitted)) (w .at-runs ∙ ap (over (runsGround came)) (runs-append P us))
+          ∙ shift-runs came (allRuns P) (allRuns us) (runWidth * d .first) (c .counts .uncommitted) lp la (within .0);
+      at-undo = ed ∙ ap (λ (x : List ℕ). shifted x (2 * (c .entries - d .entries)) (2 * c .entries)) (w .at-undo ∙ ap (over (undoGround came)) flat-is)
+          ∙ shift-undo came (flat (undoList P)) (flat (undoList us)) (2 * (c .entries - d .entries)) (c .entries) lf lg (within .1);
+      at-room = w .at-room;
+      first = length-map P rowOf ∙ s .first;
+      uncommitted = s .uncommitted;
+      waiting = w .waiting;
+      entries = s .entries;
+      answers = w .answers;
+      eights = subst (All Eight) rows (w .eights);
+    }
+
+-- a commit put together: the front leaves, singles settle, their rows go, and the new front is answered
+pub committed-all : (live runs undo room room₁ runs₂ undo₂ runs₃ room₃ : List ℕ) (c c₁ c₂ c₃ : Course) (e : ℕ) → c .first ≡ 0 → e ≡ min (getD runs (runWidth * 0 + 3) 0) (c .entries) → c₁ ≡ leftBy c e → Singles live runs room c₁ room₁ c₂
+    → runs₂ ≡ shifted runs (runWidth * c₂ .first) (runWidth * c .counts .uncommitted) → undo₂ ≡ shifted undo (2 * (c .entries - c₂ .entries)) (2 * c .entries) → Fronted live runs₂ room₁ c₂ runs₃ room₃ c₃ → Committed live runs undo room c runs₃ undo₂ room₃ c₃
+committed-all live runs undo room room₁ runs₂ undo₂ runs₃ room₃ c c₁ c₂ c₃ e ez ee ec singles er ed fronted u us ws sent came w k within =
+    let s₀ : Standing live runs undo room c [] (u ∷ us) ws sent came = record {
+      work = record {
+        at-live = w .at-live;
+        at-runs = w .at-runs;
+        at-undo = w .at-undo;
+        at-room = w .at-room;
+        first = refl;
+        uncommitted = refl;
+        waiting = w .waiting;
+        entries = refl;
+        answers = w .answers;
+        eights = w .eights;
+      };
+      first = sym ez;
+      uncommitted = w .uncommitted;
+      entries = w .entries;
+      known = k;
+    } in
+    let s₁ : Standing live runs undo room c₁ (u ∷ []) us ws sent came = leaves-standing live runs undo room c c₁ [] u us ws sent came e s₀ (ee ∙ ap (λ (x : ℕ). min (getD runs (runWidth * x + 3) 0) (c .entries)) (sym ez)) ec in
+    let both = singles undo (u ∷ []) us ws sent came s₁ in
+    let m = both .0 in
+    let whole : (u ∷ []) ++ m .settledOnes ++ m .left ≡ u ∷ us = ap {B = List Uncommitted} (λ (x : List Uncommitted). u ∷ x) (sym (m .split)) in
+    let left : Work live runs₂ undo₂ room₁ c₂ (map rowOf ((u ∷ []) ++ m .settledOnes)) (m .left) ws (sent ++ m .more) came =
+    standing-left live runs undo room₁ runs₂ undo₂ c c₂ ((u ∷ []) ++ m .settledOnes) (m .left) ws (sent ++ m .more) came (m .standing) within (ap length whole ∙ w .uncommitted) (ap (λ (x : List Uncommitted). length (undoList x)) whole ∙ w .entries) er ed in
+    let kn : All Known (m .left) = all-right Known ((u ∷ []) ++ m .settledOnes) (m .left) (m .standing .known) in (
+      map rowOf ((u ∷ []) ++ m .settledOnes),
+      subst (λ (p : Place). Work live runs₃ undo₂ room₃ c₃ (map rowOf ((u ∷ []) ++ m .settledOnes)) (p .uncommitted) ws (sent ++ p .answers) came) (sym (m .rest))
+          (subst (λ (x : List Answer). Work live runs₃ undo₂ room₃ c₃ (map rowOf ((u ∷ []) ++ m .settledOnes)) (settled (m .left) .uncommitted) ws x came) (append-assoc sent (m .more) (settled (m .left) .answers))
+          (fronted undo₂ (map rowOf ((u ∷ []) ++ m .settledOnes)) (m .left) ws (sent ++ m .more) came left kn (both .1))),
     )

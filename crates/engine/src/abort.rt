@@ -1,5 +1,6 @@
 // "Abort of the front": everything uncommitted is undone, and all but the front waits again.
-ghost use Prim.Native.Nat.{_+_, _≤_, _<_};
+ghost use mathlib.Core.Path.{_≡_};
+ghost use Prim.Native.Nat.{_<_};
 ghost use Rattle.engine.specs.Work.{Kept, Fair, Aborted};
 use crate::course::Course;
 
@@ -15,7 +16,6 @@ pub(crate) fn abort(
 ) -> Course
     requires { ⌜ Fair c ⌝ }
     requires { ⌜ 0 < c .counts .uncommitted ⌝ }
-    ensures { λ d. ⌜ d .first + d .counts .uncommitted + d .counts .waiting ≤ 64 ⌝ }
     ensures { λ d. ⌜ Aborted (now (live .entry)) (now (runs .entry)) (now (undo .entry)) (now (cells .entry)) c
         (now (live .exit)) (now (runs .exit)) (now (undo .exit)) (now (cells .exit)) d ⌝ }
     ensures { λ d. ⌜ Kept c d ⌝ }

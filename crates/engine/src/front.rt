@@ -4,7 +4,7 @@ ghost use Prim.Native.Nat.{_+_, _*_, _≤_, _<_};
 ghost use lib.Dec.{eqb};
 ghost use lib.Seq.{sets};
 ghost use Rattle.engine.specs.Work.{Kept, Fair, Continued};
-ghost use Rattle.record.specs.View.{numbersFrom};
+ghost use Rattle.record.specs.View.{numbersFrom, shifted};
 ghost use Rattle.model.specs.Operations.{pick};
 use crate::course::Course;
 use model::Fragment;
@@ -16,7 +16,7 @@ pub(crate) fn note_entries(undo: &mut [u32], entries: u32, r: Ran) -> u32
     ensures { λ n. ⌜ n ≡ pick (eqb (r .place) 0) (entries + r .entries) 0 ⌝ }
     ensures { λ n. ⌜ now (undo .exit) ≡ pick (eqb (r .place) 0)
         (sets (now (undo .entry)) (2 * entries) (numbersFrom (r .undo) 0 (2 * r .entries)))
-        (sets (now (undo .entry)) 0 (numbersFrom (now (undo .entry)) (2 * entries) (2 * entries))) ⌝ }
+        (shifted (now (undo .entry)) (2 * entries) (2 * entries)) ⌝ }
 {
     if r.place == 0 {
         rows::put_entries(undo, record::ENTRY_WIDTH * entries, r);
@@ -43,7 +43,6 @@ pub(crate) fn continue_front(
 ) -> Course
     requires { ⌜ Fair c ⌝ }
     requires { ⌜ 0 < c .counts .uncommitted ⌝ }
-    ensures { λ d. ⌜ d .first + d .counts .uncommitted + d .counts .waiting ≤ 64 ⌝ }
     ensures { λ d. ⌜ Continued (now (live .entry)) (now (runs .entry)) (now (undo .entry)) (now (room .entry)) (now (cells .entry)) c f
         (now (runs .exit)) (now (undo .exit)) (now (room .exit)) (now (cells .exit)) d ⌝ }
     ensures { λ d. ⌜ Kept c d ⌝ }

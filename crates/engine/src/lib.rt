@@ -2,15 +2,22 @@
 ghost use Rattle.record.specs.Widths.{liveWidth};
 ghost use mathlib.Core.Path.{_≡_};
 ghost use Prim.Native.Nat.{ℕ, _+_, _*_, _≤_};
-ghost use lib.ListN.{length};
+ghost use mathlib.Core.Bool.{_&&_};
+ghost use mathlib.Core.List.{[]};
+ghost use lib.Dec.{eqb};
+ghost use lib.ListN.{length, getD};
 ghost use lib.Seq.{sets};
 ghost use Rattle.model.specs.Refusals.{refusal};
 ghost use Rattle.model.specs.declared.Scheme.{Scheme};
 ghost use Rattle.record.specs.Words.{rowWords};
-ghost use Rattle.record.specs.View.{viewBy};
+ghost use Rattle.model.specs.Steps.{run};
+ghost use Rattle.operations.specs.Laid.{told};
+ghost use Rattle.rows.specs.Rows.{firstTrial, noTrial, toldRow};
+ghost use Rattle.record.specs.View.{fragmentAt, shifted, viewBy};
+ghost use Rattle.record.specs.Events.{eventOf};
 ghost use Rattle.refusals.specs.Rest.{callOf};
-ghost use Rattle.engine.specs.Work.{Kept, waitingMore};
-ghost use Rattle.engine.specs.Called.{Leaves, recordBy, lentCall};
+ghost use Rattle.engine.specs.Work.{Same, waitingMore};
+ghost use Rattle.engine.specs.Called.{Leaves, recordBy, lentCall, settledAlone};
 ghost use Rattle.engine.specs.Ready.{Accepts, Entered};
 use crate::course::Course;
 use model::Event;
@@ -77,7 +84,7 @@ pub(crate) fn arrive(
     requires { ⌜ event .kind ≡ 1 ⌝ }
     ensures { λ d. ⌜ ((σ : Scheme) → Entered σ (now (live .entry)) (now (runs .entry)) (now (undo .entry)) (now (room .entry)) (now (cells .entry)) c event
         (now (live .exit)) (now (runs .exit)) (now (undo .exit)) (now (room .exit)) (now (cells .exit)) d) ⌝ }
-    ensures { λ d. ⌜ Kept c d ⌝ }
+    ensures { λ d. ⌜ Same c d ⌝ }
 {
     let number = event.number;
     let f = event.fragment;
@@ -100,7 +107,7 @@ pub(crate) fn enter(
     requires { ⌜ ((σ : Scheme) × Accepts σ (now live) (now runs) (now undo) (now room) (now cells) c event) ⌝ }
     ensures { λ d. ⌜ ((σ : Scheme) → Entered σ (now (live .entry)) (now (runs .entry)) (now (undo .entry)) (now (room .entry)) (now (cells .entry)) c event
         (now (live .exit)) (now (runs .exit)) (now (undo .exit)) (now (room .exit)) (now (cells .exit)) d) ⌝ }
-    ensures { λ d. ⌜ Kept c d ⌝ }
+    ensures { λ d. ⌜ Same c d ⌝ }
 {
     if event.kind == 1 {
         return arrive(live, runs, undo, cells, room, c, event);
@@ -111,7 +118,7 @@ pub(crate) fn enter(
     abort::abort(live, runs, undo, cells, c)
 }
 
-// An accepted call, carried out where the rows stand: unused places cleared, the event's step, and the rows of those that are gone closed up.
+// An accepted call, carried out where the rows stand: the event's step, the drain, and the rows of those that are gone closed up.
 pub(crate) fn carry_out(
     scheme: Scheme,
     counts: Counts,
@@ -127,7 +134,7 @@ pub(crate) fn carry_out(
         (now (cells .entry)) (now (room .entry))
         (lentCall d (now (live .exit)) (now (runs .exit)) (now (undo .exit))) (now (cells .exit)) (now (room .exit)) ⌝ }
 {
-    let entries = tidy::tidy(counts, live, runs, undo);
+    let entries = tidy::tidy(runs, counts.uncommitted);
     let c = Course {
         counts: counts.accepts(event.kind, event.number),
         first: 0,
@@ -150,6 +157,46 @@ pub(crate) fn carry_out(
     }
 }
 
+// Does an accepted event bring a single that meets nothing live?
+pub(crate) fn is_alone(counts: Counts, event: &[u32]) -> bool
+    ensures { λ r. ⌜ r ≡ (eqb (counts .uncommitted) 0 && (eqb (counts .waiting) 0 && eqb (getD (now (event .entry)) 2 0) 2)) ⌝ }
+{
+    if counts.uncommitted != 0 {
+        return false;
+    }
+    if counts.waiting != 0 {
+        return false;
+    }
+    // its flags: no multi, and its last fragment
+    let flags = operations::number_at(event, 2);
+    flags == 2
+}
+
+// A single that meets nothing live runs from its words, is answered and settles: of the record only the largest number moves, and the place that it takes
+// and leaves is cleared.
+pub(crate) fn settle_alone(
+    counts: Counts,
+    live: &mut Live,
+    cells: &mut [u32],
+    event: &[u32],
+    room: &mut [u32],
+) -> LentCall
+    ensures { λ d. ⌜ d ≡ settledAlone counts (getD (now (event .entry)) 1 0) ⌝ }
+    ensures { λ d. ⌜ now (live .exit) ≡ shifted (now (live .entry)) liveWidth liveWidth ⌝ }
+    ensures { λ d. ⌜ now (cells .exit) ≡ run (fragmentAt (now (event .entry)) 1) (now (cells .entry)) [] .cells ⌝ }
+    ensures { λ d. ⌜ now (room .exit) ≡ sets (now (room .entry)) 0
+        (toldRow (firstTrial (now (event .entry)) 1) noTrial (told (run (fragmentAt (now (event .entry)) 1) (now (cells .entry)) []))) ⌝ }
+{
+    rows::run_alone(cells, event, 1, room);
+    record::shift(live, record::LIVE_WIDTH, record::LIVE_WIDTH);
+    let number = operations::number_at(event, 1);
+    LentCall {
+        number: 0,
+        answers: 1,
+        counts: counts.accepts(1, number),
+    }
+}
+
 // A call on a record whose rows are lent: refused with nothing touched, or carried out.
 pub fn call_lent(
     scheme: Scheme,
@@ -158,11 +205,11 @@ pub fn call_lent(
     runs: &mut Runs,
     undo: &mut Undone,
     cells: &mut [u32],
-    event: Event,
+    event: &[u32],
     room: &mut [u32],
 ) -> LentCall
-    ensures { λ d. ⌜ Leaves scheme (recordBy counts (now (live .entry)) (now (runs .entry)) (now (undo .entry))) event
-        (now (cells .entry)) (now (room .entry))
+    ensures { λ d. ⌜ Leaves scheme (recordBy counts (now (live .entry)) (now (runs .entry)) (now (undo .entry)))
+        (eventOf (now (event .entry))) (now (cells .entry)) (now (room .entry))
         (lentCall d (now (live .exit)) (now (runs .exit)) (now (undo .exit))) (now (cells .exit)) (now (room .exit)) ⌝ }
 {
     let number = refusals::refused(counts, live, runs, undo, cells, room, event);
@@ -173,5 +220,9 @@ pub fn call_lent(
             counts: counts,
         };
     }
-    carry_out(scheme, counts, live, runs, undo, cells, event, room)
+    if is_alone(counts, event) {
+        return settle_alone(counts, live, cells, event, room);
+    }
+    let v = record::event_of(event);
+    carry_out(scheme, counts, live, runs, undo, cells, v, room)
 }

@@ -1,69 +1,50 @@
 // "Commit of the front": it settles, then the singles behind it; the new front is answered, and those behind it that may be.
 ghost use mathlib.Core.Path.{_≡_};
-ghost use Prim.Native.Nat.{_+_, _*_, _≤_, _<_};
-ghost use Rattle.engine.specs.Work.{Kept, withAnswers, Fair, Dropped, SettledOne, Singles, ReleasedOne, Fronted, Committed};
+ghost use Prim.Native.Nat.{_+_, _*_, _≤_, _<_, min};
+ghost use lib.ListN.{getD};
+ghost use Rattle.record.specs.Widths.{runWidth};
+ghost use Rattle.engine.specs.Work.{Kept, withAnswers, Fair, SettledOne, Singles, ReleasedOne, Fronted, Committed};
 use crate::course::Course;
 use rows::Trial;
 
-// The first uncommitted one leaves the queue: its run and its entries, the oldest, are shifted out.
-pub(crate) fn drop_front(runs: &mut [u32], undo: &mut [u32], c: Course) -> Course
-    requires { ⌜ Fair c ⌝ }
-    requires { ⌜ 0 < c .counts .uncommitted ⌝ }
-    ensures { λ d. ⌜ Fair d ⌝ }
-    ensures { λ d. ⌜ (d .counts .uncommitted + 1 ≡ c .counts .uncommitted) × (d .counts .waiting ≡ c .counts .waiting) × (d .answers ≡ c .answers) ⌝ }
-    ensures { λ d. ⌜ Dropped (now (runs .entry)) (now (undo .entry)) c (now (runs .exit)) (now (undo .exit)) d ⌝ }
-    ensures { λ d. ⌜ Kept c d ⌝ }
+// How many undo entries run number i owns, at most so many.
+pub(crate) fn entries_at(runs: &[u32], i: u32, most: u32) -> u32
+    requires { ⌜ i ≤ 64 ⌝ }
+    ensures { λ e. ⌜ e ≡ min (getD (now (runs .entry)) (runWidth * i + 3) 0) most ⌝ }
 {
-    let own = operations::number_at(runs, 3);
-    let e = rows::least(own, c.entries);
-    record::shift(
-        runs,
-        record::RUN_WIDTH,
-        record::RUN_WIDTH * c.counts.uncommitted,
-    );
-    record::shift(
-        undo,
-        record::ENTRY_WIDTH * e,
-        record::ENTRY_WIDTH * c.entries,
-    );
-    c.leaves(e)
+    let own = operations::number_at(runs, record::RUN_WORDS * i as usize + 3);
+    rows::least(own, most)
 }
 
-// The first uncommitted one is answered if it holds its answer, and leaves the queue.
-pub(crate) fn settle_one(
-    live: &[u32],
-    runs: &mut [u32],
-    undo: &mut [u32],
-    room: &mut [u32],
-    c: Course,
-) -> Course
+// The first uncommitted one is answered if it holds its answer, and leaves the queue. Its run stands where it stood, behind those that left before it.
+pub(crate) fn settle_one(live: &[u32], runs: &[u32], room: &mut [u32], c: Course) -> Course
     requires { ⌜ Fair c ⌝ }
     requires { ⌜ 0 < c .counts .uncommitted ⌝ }
     ensures { λ d. ⌜ Fair d ⌝ }
-    ensures { λ d. ⌜ d .counts .uncommitted + 1 ≡ c .counts .uncommitted ⌝ }
-    ensures { λ d. ⌜ SettledOne (now (live .entry)) (now (runs .entry)) (now (undo .entry)) (now (room .entry)) c
-        (now (runs .exit)) (now (undo .exit)) (now (room .exit)) d ⌝ }
+    ensures { λ d. ⌜ (d .counts .uncommitted + 1 ≡ c .counts .uncommitted) × (d .entries ≤ c .entries) ⌝ }
+    ensures { λ d. ⌜ SettledOne (now (live .entry)) (now (runs .entry)) (now (room .entry)) c (now (room .exit)) d ⌝ }
     ensures { λ d. ⌜ Kept c d ⌝ }
 {
     let own = rows::trial_at(live, record::LIVE_WIDTH * c.first);
     let none = rows::no_trial();
-    let held = rows::put_held(room, rows::ANSWER_WIDTH * c.answers, runs, 0, own, none);
-    let d = drop_front(runs, undo, c);
-    d.sends(held)
+    let held = rows::put_held(
+        room,
+        rows::ANSWER_WIDTH * c.answers,
+        runs,
+        c.first,
+        own,
+        none,
+    );
+    let entries = entries_at(runs, c.first, c.entries);
+    c.leaves(entries).sends(held)
 }
 
 // "Then singles settle and are answered from the front of the queue until a multi is first."
-pub(crate) fn settle_singles(
-    live: &[u32],
-    runs: &mut [u32],
-    undo: &mut [u32],
-    room: &mut [u32],
-    from: Course,
-) -> Course
+pub(crate) fn settle_singles(live: &[u32], runs: &[u32], room: &mut [u32], from: Course) -> Course
     requires { ⌜ Fair from ⌝ }
     ensures { λ d. ⌜ Fair d ⌝ }
-    ensures { λ d. ⌜ Singles (now (live .entry)) (now (runs .entry)) (now (undo .entry)) (now (room .entry)) from
-        (now (runs .exit)) (now (undo .exit)) (now (room .exit)) d ⌝ }
+    ensures { λ d. ⌜ d .entries ≤ from .entries ⌝ }
+    ensures { λ d. ⌜ Singles (now (live .entry)) (now (runs .entry)) (now (room .entry)) from (now (room .exit)) d ⌝ }
     ensures { λ d. ⌜ Kept from d ⌝ }
 {
     let mut c = from;
@@ -71,7 +52,7 @@ pub(crate) fn settle_singles(
         if rows::is_multi_row(live, record::LIVE_WIDTH * c.first) {
             return c;
         }
-        c = settle_one(live, runs, undo, room, c);
+        c = settle_one(live, runs, room, c);
     }
     c
 }
@@ -127,7 +108,8 @@ pub(crate) fn release(live: &[u32], runs: &mut [u32], room: &mut [u32], from: Co
     c
 }
 
-// "Commit of the front: it settles. Then singles settle .."; the drain is still to come.
+// "Commit of the front: it settles. Then singles settle ..": who settles is found first, and then each row is shifted once; the drain is still to
+// come.
 pub(crate) fn commit(
     live: &[u32],
     runs: &mut [u32],
@@ -137,12 +119,22 @@ pub(crate) fn commit(
 ) -> Course
     requires { ⌜ Fair c ⌝ }
     requires { ⌜ 0 < c .counts .uncommitted ⌝ }
-    ensures { λ d. ⌜ d .first + d .counts .uncommitted + d .counts .waiting ≤ 64 ⌝ }
+    requires { ⌜ c .first ≡ 0 ⌝ }
     ensures { λ d. ⌜ Committed (now (live .entry)) (now (runs .entry)) (now (undo .entry)) (now (room .entry)) c
         (now (runs .exit)) (now (undo .exit)) (now (room .exit)) d ⌝ }
     ensures { λ d. ⌜ Kept c d ⌝ }
 {
-    let d = drop_front(runs, undo, c);
-    let e = settle_singles(live, runs, undo, room, d);
-    release(live, runs, room, e)
+    let entries = entries_at(runs, 0, c.entries);
+    let d = settle_singles(live, runs, room, c.leaves(entries));
+    record::shift(
+        runs,
+        record::RUN_WIDTH * d.first,
+        record::RUN_WIDTH * c.counts.uncommitted,
+    );
+    record::shift(
+        undo,
+        record::ENTRY_WIDTH * (c.entries - d.entries),
+        record::ENTRY_WIDTH * c.entries,
+    );
+    release(live, runs, room, d)
 }

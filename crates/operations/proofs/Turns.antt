@@ -2,6 +2,7 @@
 use Prim.Native.Nat.{ℕ, zero, suc, _+_, _*_, _-_, min, _≤_, _<_}
 use native.Mathlib.Omega.{arith}
 use native.Mathlib.Numerals.{add-one}
+use native.Mathlib.Nat.{add-assoc}
 use mathlib.Core.Path.{_≡_, refl, sym, ap, _∙_, subst}
 use mathlib.Core.Bool.{Bool, true, false}
 use mathlib.Core.List.{List, [], _∷_, _++_, append-assoc, append-nil, map}
@@ -13,7 +14,7 @@ use Rattle.model.specs.Operations.{Cells, content, operate, meaning, put, write
 use Rattle.model.specs.Steps.{undone, noted, runFrom, run}
 use Rattle.model.specs.Steps as Steps
 use Rattle.model.proofs.Undoing.{undone-append}
-use Rattle.model.proofs.Running.{joinedBy, run-earlier}
+use Rattle.model.proofs.Running.{joinedBy, run-earlier, run-numbers}
 use Rattle.model.specs.declared.Op.{Op}
 use Rattle.model.specs.declared.Fragment.{Fragment}
 use Rattle.model.specs.declared.Undo.{Undo}
@@ -21,7 +22,9 @@ use Rattle.model.specs.declared.Did.{Did}
 use Rattle.model.specs.declared.Did.the-variants.{Number, Fails}
 use Rattle.operations.specs.declared.Operated.{Operated}
 use Rattle.operations.specs.declared.Ran.{Ran}
-use Rattle.operations.specs.Laid.{operated, afterwards, entryAt, entriesOf, flat, padded, noteCount, noteRow, laid}
+use Rattle.operations.specs.declared.Told.{Told}
+use Rattle.operations.specs.Laid.{operated, afterwards, entryAt, entriesOf, flat, padded, noteCount, noteRow, laid, told}
+use Rattle.operations.specs.Words.{opAt, fragmentAt}
 
 -- One operation: x is what it found, d what it did
 
@@ -290,6 +293,47 @@ none-of row n i h = drop-of-length-le (take n row) {i = i} (omega (arith, length
 -- what a read past the end of a row of operations would give
 abbrev pub noOp : Op
 noOp = record { code = 0; cell = 0; amount = 0 }
+
+-- the operations of a fragment whose words start at b
+
+-- the i-th of its row
+pub op-of : (l : List ℕ) (b i : ℕ) (d : Op) → i < 8 → getD (fragmentAt l b .row) i d ≡ opAt l (b + 4 + 3 * i)
+unfolding fragmentAt
+op-of l b i d h =
+    let all : fragmentAt l b .row ≡ threes (b + 4) 8 = simp add-assoc in
+    ap (λ (x : List Op). getD x i d) all ∙ at (b + 4) 8 i h
+  where
+    threes : ℕ → ℕ → List Op
+    threes c zero = []
+    threes c (suc n) = opAt l c ∷ threes (c + 3) n
+
+    at : (c n k : ℕ) → k < n → getD (threes c n) k d ≡ opAt l (c + 3 * k)
+    at c zero k h = absurd (omega arith)
+    at c (suc n) zero h = let e : c ≡ c + 3 * 0 = omega arith in ap (opAt l) e
+    at c (suc n) (suc k) h = let e : c + 3 + 3 * k ≡ c + 3 * suc k = omega arith in at (c + 3) n k (omega arith) ∙ ap (opAt l) e
+
+module _ (l : List ℕ) (b n : ℕ) where
+  pub next-op : (i : ℕ) (o : Op) → n ≤ 8 → i < n → o ≡ opAt l (b + 4 + 3 * i) → drop i (take n (fragmentAt l b .row)) ≡ o ∷ drop (suc i) (take n (fragmentAt l b .row))
+  unfolding fragmentAt
+  next-op i o k h e =
+      next-of (fragmentAt l b .row) n i noOp refl k h ∙ ap {B = List Op} (λ (x : Op). x ∷ drop (suc i) (take n (fragmentAt l b .row))) (op-of l b i noOp (omega arith) ∙ sym e)
+
+  pub operations-at : (c : ℕ) → c ≡ getD l (b + 3) 0 → n ≡ min c 8 → take n (fragmentAt l b .row) ≡ operations (fragmentAt l b)
+  unfolding fragmentAt
+  operations-at c ec en = ap (λ (m : ℕ). take m (fragmentAt l b .row)) (en ∙ ap (λ (m : ℕ). min m 8) ec) ∙ operations-of (fragmentAt l b) refl
+
+-- its run gives at most eight numbers, whatever the words are
+pub numbers-few : (l : List ℕ) (b : ℕ) (cs : Cells) → length (run (fragmentAt l b) cs [] .outcome .numbers) ≤ 8
+unfolding fragmentAt operations
+numbers-few l b cs =
+    let f : Fragment = fragmentAt l b in
+    omega (arith, run-numbers (fragmentAt l b) cs, length-take (f .count) (f .row))
+
+-- What a run tells is what it gives, without its entries
+
+pub told-of : (R : Steps.Ran) (r : Ran) → r ≡ laid R → record { place = r .place; count = r .count; numbers = r .numbers } ≡ told R
+unfolding laid told
+told-of R r e = λ j. record { place = e j .place; count = e j .count; numbers = e j .numbers }
 
 -- A later fragment
 

@@ -23,6 +23,8 @@ use Rattle.operations.proofs.run_fragment.Kinds as run-fragment-kinds
 use Rattle.operations.proofs.run_fragment.Reads as run-fragment
 use Rattle.operations.proofs.continue_fragment.Kinds as continue-fragment-kinds
 use Rattle.operations.proofs.continue_fragment.Reads as continue-fragment
+use Rattle.operations.proofs.run_words.Kinds as run-words-kinds
+use Rattle.operations.proofs.run_words.Reads as run-words
 use Rattle.operations.proofs.is_multi.Kinds as is-multi-kinds
 use Rattle.operations.proofs.is_multi.Reads as is-multi
 use Rattle.operations.proofs.is_last.Kinds as is-last-kinds
@@ -33,10 +35,6 @@ use Rattle.operations.proofs.is_blank_op.Kinds as is-blank-op-kinds
 use Rattle.operations.proofs.is_blank_op.Reads as is-blank-op
 use Rattle.operations.proofs.is_formed.Kinds as is-formed-kinds
 use Rattle.operations.proofs.is_formed.Reads as is-formed
-use Rattle.operations.proofs.is_blank.Kinds as is-blank-kinds
-use Rattle.operations.proofs.is_blank.Reads as is-blank
-use Rattle.operations.proofs.is_inside.Kinds as is-inside-kinds
-use Rattle.operations.proofs.is_inside.Reads as is-inside
 
 pub is-known-unique : Unique is-known-kinds.ps is-known-kinds.r is-known.Learnt
 is-known-unique κs a z z′ ws ws′ p q = (cc, refl)
@@ -81,6 +79,11 @@ continue-fragment-unique κs a z z′ ws ws′ p q =
     let b : ws .0 ≡ ws′ .0 = cc in
     (cc, λ j. (b j, ws .1))
 
+pub run-words-unique : Unique run-words-kinds.ps run-words-kinds.r run-words.Learnt
+run-words-unique κs a z z′ ws ws′ p q =
+    let b : ws .0 ≡ ws′ .0 = cc in
+    (cc, λ j. (b j, ws .1))
+
 pub is-multi-unique : Unique is-multi-kinds.ps is-multi-kinds.r is-multi.Learnt
 is-multi-unique κs a z z′ ws ws′ p q = (cc, refl)
 
@@ -95,9 +98,3 @@ is-blank-op-unique κs a z z′ ws ws′ p q = (cc, refl)
 
 pub is-formed-unique : Unique is-formed-kinds.ps is-formed-kinds.r is-formed.Learnt
 is-formed-unique κs a z z′ ws ws′ p q = (cc, refl)
-
-pub is-blank-unique : Unique is-blank-kinds.ps is-blank-kinds.r is-blank.Learnt
-is-blank-unique κs a z z′ ws ws′ p q = (cc, refl)
-
-pub is-inside-unique : Unique is-inside-kinds.ps is-inside-kinds.r is-inside.Learnt
-is-inside-unique κs a z z′ ws ws′ p q = (cc, refl)

@@ -1,8 +1,7 @@
 -- How a run's lists stand in rows of numbers, unused places zero; what one operation leaves.
 use Prim.Native.Nat.{ℕ, zero, suc, _+_, _*_, _-_}
-use mathlib.Core.Bool.{Bool, true, false}
+use mathlib.Core.Bool.{true, false}
 use mathlib.Core.List.{List, [], _∷_, _++_}
-use lib.Dec.{ltb}
 use lib.ListN.{length, getD, set, replicate}
 use Rattle.model.specs.Operations.{Cells, content, operate, put, writes}
 use Rattle.model.specs.Steps as Steps
@@ -12,6 +11,7 @@ use Rattle.model.specs.declared.Did.{Did}
 use Rattle.model.specs.declared.Did.the-variants.{Number, Fails}
 use Rattle.operations.specs.declared.Operated.{Operated}
 use Rattle.operations.specs.declared.Ran.{Ran}
+use Rattle.operations.specs.declared.Told.{Told}
 
 -- what an operation did, and the content that it found
 unfoldable pub operated : Op → Cells → Operated
@@ -56,5 +56,6 @@ laid r = record {
   undo = padded 16 (flat (r .undo));
 }
 
-abbrev pub cellBelow : ℕ → Op → Bool
-cellBelow cells o = ltb (o .cell) cells
+-- what a run tells, in a row: its entries are left out
+unfoldable pub told : Steps.Ran → Told
+told r = record { place = r .outcome .place; count = length (r .outcome .numbers); numbers = padded 8 (r .outcome .numbers) }

@@ -6,8 +6,9 @@ ghost use Prim.Native.Nat.{_+_, _*_, _≤_, _<_, _^_, min};
 ghost use lib.ListN.{length, getD, set, take, drop};
 ghost use Rattle.model.specs.Operations.{known, uses, writes, mayFail, meaning, multi, last, pick};
 ghost use Rattle.model.specs.Steps.{undone, run};
-ghost use Rattle.model.specs.Refusals.{formedOp, blankOp, formedKind, formed, blank, inside, every};
-ghost use Rattle.operations.specs.Laid.{entryAt, entriesOf, operated, afterwards, noteCount, noteRow, laid, cellBelow};
+ghost use Rattle.model.specs.Refusals.{formedOp, blankOp, formedKind, formed, every};
+ghost use Rattle.operations.specs.Laid.{entryAt, entriesOf, operated, afterwards, noteCount, noteRow, laid, told};
+ghost use Rattle.operations.specs.Words.{fragmentAt};
 use model::Did;
 use model::Fragment;
 use model::Op;
@@ -318,6 +319,60 @@ pub fn continue_fragment(cells: &mut [u32], f: Fragment, earlier: &[u32], count:
     r
 }
 
+// What a run tells: the place of failure or 0, and the numbers with their count; unused places are zero.
+pub struct Told {
+    pub place: u32,
+    pub count: u32,
+    pub numbers: [u32; 8],
+}
+
+// The fragment whose words start at b, run where they stand, for one that settles at once: no fragment is made of the words, and its entries
+// stand in a row of its own that nobody keeps.
+pub fn run_words(cells: &mut [u32], words: &[u32], b: u32) -> Told
+    ensures { λ r. ⌜ r ≡ told (run (fragmentAt (now (words .entry)) b) (now (cells .entry)) []) ⌝ }
+    ensures { λ r. ⌜ now (cells .exit) ≡ run (fragmentAt (now (words .entry)) b) (now (cells .entry)) [] .cells ⌝ }
+{
+    let start = b as usize + 4;
+    let n = places(number_at(words, b as usize + 3));
+    let mut numbers = [0u32; 8];
+    let mut mine = [0u32; 16];
+    let mut kept: usize = 0;
+    let mut i: usize = 0;
+    while i < n {
+        let at = start + 3 * i;
+        let code = number_at(words, at);
+        let cell = number_at(words, at + 1);
+        let amount = number_at(words, at + 2);
+        let o = Op {
+            code: code,
+            cell: cell,
+            amount: amount,
+        };
+        let s = operate_on(cells, o);
+        let d = s.did;
+        match d {
+            Did::Number(y) => {
+                numbers[i] = y;
+                kept = note(&mut mine, kept, o, s.old);
+            }
+            Did::Fails(found) => {
+                undo(cells, &mine, kept as u32);
+                return Told {
+                    place: (i + 1) as u32,
+                    count: 1u32,
+                    numbers: [found, 0, 0, 0, 0, 0, 0, 0],
+                };
+            }
+        }
+        i = i + 1;
+    }
+    Told {
+        place: 0,
+        count: i as u32,
+        numbers: numbers,
+    }
+}
+
 // "flags (1 multi + 2 last)"
 pub fn is_multi(f: Fragment) -> bool
     ensures { λ r. ⌜ r ≡ multi f ⌝ }
@@ -390,22 +445,6 @@ pub(crate) fn ops_blank(row: [Op; 8], from: u32) -> bool
     true
 }
 
-// The first `count` places of a row each name a cell below `cells`.
-pub(crate) fn ops_inside(row: [Op; 8], count: u32, cells: u32) -> bool
-    ensures { λ r. ⌜ r ≡ every (cellBelow cells) (take count row) ⌝ }
-{
-    let n = places(count);
-    let mut i: usize = 0;
-    while i < n {
-        let o = row[i];
-        if cells <= o.cell {
-            return false;
-        }
-        i = i + 1;
-    }
-    true
-}
-
 // "single not last, coordinator of the wrong range"
 pub(crate) fn is_formed_kind(f: Fragment) -> bool
     ensures { λ r. ⌜ r ≡ formedKind f ⌝ }
@@ -446,29 +485,4 @@ pub fn is_formed(f: Fragment) -> bool
         return false;
     }
     is_formed_kind(f)
-}
-
-// "a decision with more than its number": it has none of a fragment's words.
-pub fn is_blank(f: Fragment) -> bool
-    ensures { λ r. ⌜ r ≡ blank f ⌝ }
-{
-    if f.flags != 0 {
-        return false;
-    }
-    if f.coordinator != 0 {
-        return false;
-    }
-    if f.count != 0 {
-        return false;
-    }
-    let row = f.row;
-    ops_blank(row, 0)
-}
-
-// Refusal 5, of a fragment: no operation names a cell at or beyond the count.
-pub fn is_inside(cells: u32, f: Fragment) -> bool
-    ensures { λ r. ⌜ r ≡ inside cells f ⌝ }
-{
-    let row = f.row;
-    ops_inside(row, f.count, cells)
 }

@@ -1,4 +1,4 @@
--- Reading back what a packed row holds: a transaction, a run, its entries; and the whole record: `view` of `pack` is what was packed.
+-- Reading back what is laid over a row: a transaction, a run, its entries; and the whole record: `view` of `packOver` is what was laid.
 use Prim.Native.Nat.{ℕ, _+_, _*_, _≤_, _<_}
 use native.Mathlib.Omega.{arith}
 use native.Mathlib.Nat.{mul-suc}
@@ -19,17 +19,17 @@ use Rattle.model.specs.declared.Fragment.{Fragment}
 use Rattle.model.specs.declared.Undo.{Undo}
 use Rattle.operations.specs.Laid.{padded, flat, entriesOf}
 use Rattle.operations.proofs.Turns.{noOp, length-padded}
-use Rattle.record.specs.Words.{opsWords, rowWords, allRows, stateWord, replyWord, heldOutcome, runWords, rowsOf, allRuns, rowOf, liveRows, pack}
-use Rattle.record.specs.View.{fragmentAt, attemptAt, waitingOf, numbersFrom, stateOf, replyOf, memberAt, uncommittedOf, viewOf, view}
-use Rattle.record.proofs.Rows.{getD-padded, numbers-same, numbers-whole, fragment-same, row-words, eight}
+use Rattle.record.specs.Words.{opsWords, rowWords, allRows, stateWord, replyWord, heldOutcome, runWords, rowsOf, allRuns, rowOf, liveRows, over, packOver, pack}
+use Rattle.record.specs.View.{fragmentAt, attemptAt, waitingOf, numbersFrom, zeros, stateOf, replyOf, memberAt, uncommittedOf, viewOf, view}
+use Rattle.record.proofs.Rows.{getD-padded, getD-over, padded-over, numbers-same, numbers-whole, fragment-same, row-words, eight}
 use Rattle.model.specs.Parts.{All, SoundOne}
 use Rattle.record.specs.Fitting.{Eight, Fit, Known}
 use Rattle.record.specs.Widths.{opWidth, liveWidth, runWidth, liveLength, runsLength, undoLength}
 
--- a stretch of a padded row
-block-read : (n : ℕ) (X Y Z : List ℕ) (m k : ℕ) → length X ≡ m → k < length Y → getD (padded n (X ++ (Y ++ Z))) (m + k) 0 ≡ getD Y k 0
-block-read n X Y Z m k e h =
-    getD-padded n (X ++ (Y ++ Z)) (m + k) ∙ ap (λ (x : ℕ). getD (X ++ (Y ++ Z)) (x + k) 0) (sym e) ∙ getD-append-add X (Y ++ Z) k 0 ∙ List·getD-append Y Z 0 k h
+-- a stretch of the words laid over a row
+block-read : (row X Y Z : List ℕ) (m k : ℕ) → length X ≡ m → k < length Y → getD (over row (X ++ (Y ++ Z))) (m + k) 0 ≡ getD Y k 0
+block-read row X Y Z m k e h =
+    getD-over row (X ++ (Y ++ Z)) (m + k) (omega (arith, length-append X (Y ++ Z), length-append Y Z)) ∙ ap (λ (x : ℕ). getD (X ++ (Y ++ Z)) (x + k) 0) (sym e) ∙ getD-append-add X (Y ++ Z) k 0 ∙ List·getD-append Y Z 0 k h
 
 -- Rows of one width, one behind the other
 
@@ -44,9 +44,9 @@ module _ {A : Type 0} (f : A → List ℕ) where
     all-length (a ∷ l) h = length-append (f a) (rowsOf f l) ∙ omega (arith, wide a (h .0), all-length l (h .1), mul-suc width (length l))
 
     -- word k of the row that stands behind the rows of X
-    word-read : (n : ℕ) (X : List A) (a : A) (Y : List A) (b k : ℕ) → All P X → P a → width * length X ≡ b → k < width → getD (padded n (rowsOf f (X ++ a ∷ Y))) (b + k) 0 ≡ getD (f a) k 0
-    word-read n X a Y b k hx ha e h =
-        ap (λ (l : List ℕ). getD (padded n l) (b + k) 0) (append-rows X (a ∷ Y)) ∙ block-read n (rowsOf f X) (f a) (rowsOf f Y) b k (all-length X hx ∙ e) (subst (λ (x : ℕ). k < x) (sym (wide a ha)) h)
+    word-read : (row : List ℕ) (X : List A) (a : A) (Y : List A) (b k : ℕ) → All P X → P a → width * length X ≡ b → k < width → getD (over row (rowsOf f (X ++ a ∷ Y))) (b + k) 0 ≡ getD (f a) k 0
+    word-read row X a Y b k hx ha e h =
+        ap (λ (l : List ℕ). getD (over row l) (b + k) 0) (append-rows X (a ∷ Y)) ∙ block-read row (rowsOf f X) (f a) (rowsOf f Y) b k (all-length X hx ∙ e) (subst (λ (x : ℕ). k < x) (sym (wide a ha)) h)
 
 -- Transactions
 
@@ -80,33 +80,33 @@ fragment-of-words n a f h =
 attempt-of-words : (n a : ℕ) (f : Fragment) → length (f .row) ≡ 8 → attemptAt (rowWords n a f) 0 ≡ a
 attempt-of-words n a f h = ap (λ (x : List ℕ). attemptAt x 0) (sym (row-words n a f h))
 
-module _ (n : ℕ) (A : List Waiting) (t : Waiting) (B : List Waiting) (b : ℕ) (ea : All Eight A) (et : Eight t) (eb : liveWidth * length A ≡ b) where
-  pub row-read : (k : ℕ) → k < liveWidth → getD (padded n (allRows (A ++ t ∷ B))) (b + k) 0 ≡ getD (rowWords (t .number) (t .attempt) (t .fragment)) k 0
+module _ (row : List ℕ) (A : List Waiting) (t : Waiting) (B : List Waiting) (b : ℕ) (ea : All Eight A) (et : Eight t) (eb : liveWidth * length A ≡ b) where
+  pub row-read : (k : ℕ) → k < liveWidth → getD (over row (allRows (A ++ t ∷ B))) (b + k) 0 ≡ getD (rowWords (t .number) (t .attempt) (t .fragment)) k 0
   unfolding allRows
-  row-read k h = word-read words liveWidth Eight wide-row n A t B b k ea et eb h
+  row-read k h = word-read words liveWidth Eight wide-row row A t B b k ea et eb h
 
-  pub fragment-back : fragmentAt (padded n (allRows (A ++ t ∷ B))) b ≡ t .fragment
+  pub fragment-back : fragmentAt (over row (allRows (A ++ t ∷ B))) b ≡ t .fragment
   fragment-back =
-      fragment-same (padded n (allRows (A ++ t ∷ B))) b (rowWords (t .number) (t .attempt) (t .fragment)) 0 (λ k h. row-read k h ∙ (let z : k ≡ 0 + k = omega arith in ap (λ (x : ℕ). getD (rowWords (t .number) (t .attempt) (t .fragment)) x 0) z))
+      fragment-same (over row (allRows (A ++ t ∷ B))) b (rowWords (t .number) (t .attempt) (t .fragment)) 0 (λ k h. row-read k h ∙ (let z : k ≡ 0 + k = omega arith in ap (λ (x : ℕ). getD (rowWords (t .number) (t .attempt) (t .fragment)) x 0) z))
       ∙ fragment-of-words (t .number) (t .attempt) (t .fragment) et
 
-  pub number-back : getD (padded n (allRows (A ++ t ∷ B))) b 0 ≡ t .number
+  pub number-back : getD (over row (allRows (A ++ t ∷ B))) b 0 ≡ t .number
   unfolding rowWords
-  number-back = (let z : b ≡ b + 0 = omega arith in ap (λ (x : ℕ). getD (padded n (allRows (A ++ t ∷ B))) x 0) z) ∙ row-read 0 (omega arith)
+  number-back = (let z : b ≡ b + 0 = omega arith in ap (λ (x : ℕ). getD (over row (allRows (A ++ t ∷ B))) x 0) z) ∙ row-read 0 (omega arith)
 
-  pub attempt-back : attemptAt (padded n (allRows (A ++ t ∷ B))) b ≡ t .attempt
+  pub attempt-back : attemptAt (over row (allRows (A ++ t ∷ B))) b ≡ t .attempt
   attempt-back = row-read 28 (omega arith) ∙ attempt-of-words (t .number) (t .attempt) (t .fragment) et
 
 -- the rows of ws read back, behind those of A and before those of B
-pub waiting-back : (n : ℕ) (A ws B : List Waiting) (b : ℕ) → All Eight A → All Eight ws → liveWidth * length A ≡ b → waitingOf (padded n (allRows (A ++ (ws ++ B)))) b (length ws) ≡ ws
+pub waiting-back : (row : List ℕ) (A ws B : List Waiting) (b : ℕ) → All Eight A → All Eight ws → liveWidth * length A ≡ b → waitingOf (over row (allRows (A ++ (ws ++ B)))) b (length ws) ≡ ws
 unfolding waitingOf
-waiting-back n A [] B b ea ew e = refl
-waiting-back n A (w ∷ ws) B b ea ew e =
+waiting-back row A [] B b ea ew e = refl
+waiting-back row A (w ∷ ws) B b ea ew e =
     let l : (A ++ (w ∷ [])) ++ (ws ++ B) ≡ A ++ w ∷ (ws ++ B) = append-assoc A (w ∷ []) (ws ++ B) in
-    let rest : waitingOf (padded n (allRows (A ++ w ∷ (ws ++ B)))) (b + liveWidth) (length ws) ≡ ws =
-    ap (λ (x : List Waiting). waitingOf (padded n (allRows x)) (b + liveWidth) (length ws)) (sym l)
-    ∙ waiting-back n (A ++ (w ∷ [])) ws B (b + liveWidth) (all-append Eight A (w ∷ []) ea (ew .0, tt)) (ew .1) (omega (arith, length-append A (w ∷ []))) in
-    λ i. record { number = number-back n A w (ws ++ B) b ea (ew .0) e i; attempt = attempt-back n A w (ws ++ B) b ea (ew .0) e i; fragment = fragment-back n A w (ws ++ B) b ea (ew .0) e i } ∷ rest i
+    let rest : waitingOf (over row (allRows (A ++ w ∷ (ws ++ B)))) (b + liveWidth) (length ws) ≡ ws =
+    ap (λ (x : List Waiting). waitingOf (over row (allRows x)) (b + liveWidth) (length ws)) (sym l)
+    ∙ waiting-back row (A ++ (w ∷ [])) ws B (b + liveWidth) (all-append Eight A (w ∷ []) ea (ew .0, tt)) (ew .1) (omega (arith, length-append A (w ∷ []))) in
+    λ i. record { number = number-back row A w (ws ++ B) b ea (ew .0) e i; attempt = attempt-back row A w (ws ++ B) b ea (ew .0) e i; fragment = fragment-back row A w (ws ++ B) b ea (ew .0) e i } ∷ rest i
 
 -- Runs
 
@@ -124,10 +124,10 @@ pub runs-append : (a b : List Uncommitted) → allRuns (a ++ b) ≡ allRuns a ++
 unfolding allRuns
 runs-append a b = append-rows runWords a b
 
-pub run-read : (n : ℕ) (P : List Uncommitted) (u : Uncommitted) (Q : List Uncommitted) (c k : ℕ) → All Fit P → Fit u → runWidth * length P ≡ c → k < runWidth
-    → getD (padded n (allRuns (P ++ u ∷ Q))) (c + k) 0 ≡ getD (runWords u) k 0
+pub run-read : (row : List ℕ) (P : List Uncommitted) (u : Uncommitted) (Q : List Uncommitted) (c k : ℕ) → All Fit P → Fit u → runWidth * length P ≡ c → k < runWidth
+    → getD (over row (allRuns (P ++ u ∷ Q))) (c + k) 0 ≡ getD (runWords u) k 0
 unfolding allRuns
-run-read n P u Q c k ep eu e h = word-read runWords runWidth Fit length-run n P u Q c k ep eu e h
+run-read row P u Q c k ep eu e h = word-read runWords runWidth Fit length-run row P u Q c k ep eu e h
 
 -- Entries
 
@@ -143,20 +143,20 @@ pub length-flat : (us : List Undo) → length (flat us) ≡ 2 * length us
 length-flat [] = omega arith
 length-flat (u ∷ us) = omega (arith, length-flat us)
 
-pub entries-back : (n : ℕ) (a us b : List Undo) (d : ℕ) → 2 * length a ≡ d → entriesOf (padded n (flat (a ++ (us ++ b)))) d (length us) ≡ us
+pub entries-back : (row : List ℕ) (a us b : List Undo) (d : ℕ) → 2 * length a ≡ d → entriesOf (over row (flat (a ++ (us ++ b)))) d (length us) ≡ us
 unfolding entriesOf
-entries-back n a [] b d e = refl
-entries-back n a (u ∷ us) b d e =
+entries-back row a [] b d e = refl
+entries-back row a (u ∷ us) b d e =
     let more : List ℕ = u .cell ∷ u .old ∷ [] in
-    let l : List ℕ = padded n (flat (a ++ (u ∷ us ++ b))) in
+    let l : List ℕ = over row (flat (a ++ (u ∷ us ++ b))) in
     let la : length (flat a) ≡ d = length-flat a ∙ e in
     let s : flat (a ++ (u ∷ us ++ b)) ≡ flat a ++ (more ++ flat (us ++ b)) = flat-append a (u ∷ us ++ b) in
     let z : d ≡ d + 0 = omega arith in
-    let here : getD l d 0 ≡ u .cell = ap (λ (x : ℕ). getD l x 0) z ∙ ap (λ (x : List ℕ). getD (padded n x) (d + 0) 0) s ∙ block-read n (flat a) more (flat (us ++ b)) d 0 la (omega arith) in
-    let there : getD l (d + 1) 0 ≡ u .old = ap (λ (x : List ℕ). getD (padded n x) (d + 1) 0) s ∙ block-read n (flat a) more (flat (us ++ b)) d 1 la (omega arith) in
+    let here : getD l d 0 ≡ u .cell = ap (λ (x : ℕ). getD l x 0) z ∙ ap (λ (x : List ℕ). getD (over row x) (d + 0) 0) s ∙ block-read row (flat a) more (flat (us ++ b)) d 0 la (omega arith) in
+    let there : getD l (d + 1) 0 ≡ u .old = ap (λ (x : List ℕ). getD (over row x) (d + 1) 0) s ∙ block-read row (flat a) more (flat (us ++ b)) d 1 la (omega arith) in
     let whole : (a ++ (u ∷ [])) ++ (us ++ b) ≡ a ++ (u ∷ us ++ b) = append-assoc a (u ∷ []) (us ++ b) in
     let rest : entriesOf l (d + 2) (length us) ≡ us =
-    ap (λ (x : List Undo). entriesOf (padded n (flat x)) (d + 2) (length us)) (sym whole) ∙ entries-back n (a ++ (u ∷ [])) us b (d + 2) (omega (arith, length-append a (u ∷ []))) in
+    ap (λ (x : List Undo). entriesOf (over row (flat x)) (d + 2) (length us)) (sym whole) ∙ entries-back row (a ++ (u ∷ [])) us b (d + 2) (omega (arith, length-append a (u ∷ []))) in
     λ i. record { cell = here i; old = there i } ∷ rest i
 
 -- Members
@@ -182,19 +182,19 @@ reply-back Sent h = refl
 reply-back NoReply h = absurd (mathlib.Core.Bool.true≢false (sym h))
 
 -- n numbers of a run, read through the row that holds it
-module _ (n : ℕ) (P : List Uncommitted) (u : Uncommitted) (Q : List Uncommitted) (c : ℕ) (ep : All Fit P) (eu : Fit u) (e : runWidth * length P ≡ c) where
+module _ (row : List ℕ) (P : List Uncommitted) (u : Uncommitted) (Q : List Uncommitted) (c : ℕ) (ep : All Fit P) (eu : Fit u) (e : runWidth * length P ≡ c) where
   pub outcome-back : isReply (u .reply) ≡ true
-      → replyOf (getD (padded n (allRuns (P ++ u ∷ Q))) (c + 2) 0) (record { place = getD (padded n (allRuns (P ++ u ∷ Q))) (c + 4) 0; numbers = numbersFrom (padded n (allRuns (P ++ u ∷ Q))) (c + 6) (getD (padded n (allRuns (P ++ u ∷ Q))) (c + 5) 0) }) ≡ u .reply
+      → replyOf (getD (over row (allRuns (P ++ u ∷ Q))) (c + 2) 0) (record { place = getD (over row (allRuns (P ++ u ∷ Q))) (c + 4) 0; numbers = numbersFrom (over row (allRuns (P ++ u ∷ Q))) (c + 6) (getD (over row (allRuns (P ++ u ∷ Q))) (c + 5) 0) }) ≡ u .reply
   unfolding runWords
   outcome-back h =
       let ns : List ℕ = heldOutcome (u .reply) .numbers in
-      let l : List ℕ = padded n (allRuns (P ++ u ∷ Q)) in
-      let w2 : getD l (c + 2) 0 ≡ replyWord (u .reply) = run-read n P u Q c 2 ep eu e (omega arith) in
-      let w4 : getD l (c + 4) 0 ≡ heldOutcome (u .reply) .place = run-read n P u Q c 4 ep eu e (omega arith) in
-      let w5 : getD l (c + 5) 0 ≡ length ns = run-read n P u Q c 5 ep eu e (omega arith) in
+      let l : List ℕ = over row (allRuns (P ++ u ∷ Q)) in
+      let w2 : getD l (c + 2) 0 ≡ replyWord (u .reply) = run-read row P u Q c 2 ep eu e (omega arith) in
+      let w4 : getD l (c + 4) 0 ≡ heldOutcome (u .reply) .place = run-read row P u Q c 4 ep eu e (omega arith) in
+      let w5 : getD l (c + 5) 0 ≡ length ns = run-read row P u Q c 5 ep eu e (omega arith) in
       let read : numbersFrom l (c + 6) (getD l (c + 5) 0) ≡ ns =
       ap (numbersFrom l (c + 6)) w5
-      ∙ numbers-same l (runWords u) (c + 6) 6 (length ns) (λ k hk. (let z : c + 6 + k ≡ c + (6 + k) = omega arith in ap (λ (x : ℕ). getD l x 0) z) ∙ run-read n P u Q c (6 + k) ep eu e (omega arith))
+      ∙ numbers-same l (runWords u) (c + 6) 6 (length ns) (λ k hk. (let z : c + 6 + k ≡ c + (6 + k) = omega arith in ap (λ (x : ℕ). getD l x 0) z) ∙ run-read row P u Q c (6 + k) ep eu e (omega arith))
       ∙ numbers-run u eu in
       (λ i. replyOf (w2 i) (record { place = w4 i; numbers = read i })) ∙ reply-back (u .reply) h
 
@@ -202,27 +202,27 @@ known-fits : (us : List Uncommitted) → All Known us → All Fit us
 known-fits us h = all-map Known Fit (λ u k. k .0) us h
 
 -- us read back, behind A in the live row, behind P in the runs and in the undo row
-pub members-back : (nl nr nu : ℕ) (A : List Waiting) (P us : List Uncommitted) (ws : List Waiting) (b c d : ℕ) → All Eight A → All Eight (liveRows us ws) → All Known P → All Known us
+pub members-back : (nl nr nu : List ℕ) (A : List Waiting) (P us : List Uncommitted) (ws : List Waiting) (b c d : ℕ) → All Eight A → All Eight (liveRows us ws) → All Known P → All Known us
     → liveWidth * length A ≡ b → runWidth * length P ≡ c → 2 * length (undoList P) ≡ d
-    → uncommittedOf (padded nl (allRows (A ++ liveRows us ws))) b (padded nr (allRuns (P ++ us))) c (padded nu (flat (undoList (P ++ us)))) d (length us) ≡ us
+    → uncommittedOf (over nl (allRows (A ++ liveRows us ws))) b (over nr (allRuns (P ++ us))) c (over nu (flat (undoList (P ++ us)))) d (length us) ≡ us
 unfolding uncommittedOf memberAt runWords
 members-back nl nr nu A P [] ws b c d ea el kp ku eb ec ed = refl
 members-back nl nr nu A P (u ∷ us) ws b c d ea el kp ku eb ec ed =
-    let live : List ℕ = padded nl (allRows (A ++ liveRows (u ∷ us) ws)) in
-    let runs : List ℕ = padded nr (allRuns (P ++ u ∷ us)) in
-    let undo : List ℕ = padded nu (flat (undoList (P ++ u ∷ us))) in
+    let live : List ℕ = over nl (allRows (A ++ liveRows (u ∷ us) ws)) in
+    let runs : List ℕ = over nr (allRuns (P ++ u ∷ us)) in
+    let undo : List ℕ = over nu (flat (undoList (P ++ u ∷ us))) in
     let fp : All Fit P = known-fits P kp in
     let w0 : getD runs c 0 ≡ u .ran = (let z : c ≡ c + 0 = omega arith in ap (λ (x : ℕ). getD runs x 0) z) ∙ run-read nr P u us c 0 fp (ku .0 .0) ec (omega arith) in
     let w1 : getD runs (c + 1) 0 ≡ stateWord (u .state) = run-read nr P u us c 1 fp (ku .0 .0) ec (omega arith) in
     let w3 : getD runs (c + 3) 0 ≡ length (u .undo) = run-read nr P u us c 3 fp (ku .0 .0) ec (omega arith) in
     let own : entriesOf undo d (getD runs (c + 3) 0) ≡ u .undo =
-    ap (entriesOf undo d) w3 ∙ ap (λ (x : List Undo). entriesOf (padded nu (flat x)) d (length (u .undo))) (undo-append P (u ∷ us)) ∙ entries-back nu (undoList P) (u .undo) (undoList us) d ed in
+    ap (entriesOf undo d) w3 ∙ ap (λ (x : List Undo). entriesOf (over nu (flat x)) d (length (u .undo))) (undo-append P (u ∷ us)) ∙ entries-back nu (undoList P) (u .undo) (undoList us) d ed in
     let lA : (A ++ (rowOf u ∷ [])) ++ liveRows us ws ≡ A ++ liveRows (u ∷ us) ws = append-assoc A (rowOf u ∷ []) (liveRows us ws) in
     let lP : (P ++ (u ∷ [])) ++ us ≡ P ++ u ∷ us = append-assoc P (u ∷ []) us in
     let d′ : d + 2 * getD runs (c + 3) 0 ≡ 2 * length (undoList (P ++ (u ∷ []))) =
     omega (arith, ed, w3, ap length (undo-append P (u ∷ [])), length-append (undoList P) (u .undo ++ []), length-append (u .undo) []) in
     let rest : uncommittedOf live (b + liveWidth) runs (c + runWidth) undo (d + 2 * getD runs (c + 3) 0) (length us) ≡ us =
-    (λ i. uncommittedOf (padded nl (allRows (sym lA i))) (b + liveWidth) (padded nr (allRuns (sym lP i))) (c + runWidth) (padded nu (flat (undoList (sym lP i)))) (d′ i) (length us))
+    (λ i. uncommittedOf (over nl (allRows (sym lA i))) (b + liveWidth) (over nr (allRuns (sym lP i))) (c + runWidth) (over nu (flat (undoList (sym lP i)))) (d′ i) (length us))
     ∙ members-back nl nr nu (A ++ (rowOf u ∷ [])) (P ++ (u ∷ [])) us ws (b + liveWidth) (c + runWidth) (2 * length (undoList (P ++ (u ∷ [])))) (all-append Eight A (rowOf u ∷ []) ea (el .0, tt)) (el .1)
     (all-append Known P (u ∷ []) kp (ku .0, tt)) (ku .1) (omega (arith, length-append A (rowOf u ∷ []))) (omega (arith, length-append P (u ∷ []))) refl in
     λ i. record {
@@ -245,15 +245,28 @@ pub known-of : (ct : ℕ) (us : List Uncommitted) → All (SoundOne ct) us → A
 known-of ct us h =
     all-map (SoundOne ct) Known (λ u s. (fit-of (u .reply) (s .fits), and-left (isState (u .state)) (isReply (u .reply)) (s .read), and-right (isState (u .state)) (isReply (u .reply)) (s .read))) us h
 
-pub view-pack : (e : Engine) → sound e ≡ true → All Eight (liveRows (e .uncommitted) (e .waiting)) → view (pack e) ≡ e
-unfolding viewOf pack
-view-pack e h el =
+pub view-over : (live runs undo : List ℕ) (e : Engine) → sound e ≡ true → All Eight (liveRows (e .uncommitted) (e .waiting)) → view (packOver live runs undo e) ≡ e
+unfolding viewOf packOver
+view-over live runs undo e h el =
     let us : List Uncommitted = e .uncommitted in
     let ws : List Waiting = e .waiting in
     let k : All Known us = known-of (e .count) us (sound-parts e h .each) in
     λ i. record {
       count = e .count;
       largest = e .largest;
-      uncommitted = members-back liveLength runsLength undoLength [] [] us ws 0 0 0 tt el tt k refl refl refl i;
-      waiting = (ap (λ (x : List Waiting). waitingOf (padded liveLength (allRows (map rowOf us ++ x))) (liveWidth * length us) (length ws)) (sym (append-nil ws)) ∙ waiting-back liveLength (map rowOf us) ws [] (liveWidth * length us) (all-left Eight (map rowOf us) ws el) (all-right Eight (map rowOf us) ws el) (ap (λ (x : ℕ). liveWidth * x) (length-map us rowOf))) i;
+      uncommitted = members-back live runs undo [] [] us ws 0 0 0 tt el tt k refl refl refl i;
+      waiting = (ap (λ (x : List Waiting). waitingOf (over live (allRows (map rowOf us ++ x))) (liveWidth * length us) (length ws)) (sym (append-nil ws)) ∙ waiting-back live (map rowOf us) ws [] (liveWidth * length us) (all-left Eight (map rowOf us) ws el) (all-right Eight (map rowOf us) ws el) (ap (λ (x : ℕ). liveWidth * x) (length-map us rowOf))) i;
     }
+
+-- a record with zero in every unused place is laid over zeros
+pub pack-over : (e : Engine) → pack e ≡ packOver (zeros liveLength) (zeros runsLength) (zeros undoLength) e
+unfolding pack packOver
+pack-over e = λ i. record {
+  counts = record { cells = e .count; largest = e .largest; uncommitted = length (e .uncommitted); waiting = length (e .waiting) };
+  live = padded-over liveLength (allRows (liveRows (e .uncommitted) (e .waiting))) i;
+  runs = padded-over runsLength (allRuns (e .uncommitted)) i;
+  undo = padded-over undoLength (flat (undoList (e .uncommitted))) i;
+}
+
+pub view-pack : (e : Engine) → sound e ≡ true → All Eight (liveRows (e .uncommitted) (e .waiting)) → view (pack e) ≡ e
+view-pack e h el = ap view (pack-over e) ∙ view-over (zeros liveLength) (zeros runsLength) (zeros undoLength) e h el

@@ -5,3 +5,4 @@ pub mod Starting
 pub mod Back
 pub mod Unique
 pub mod Viewed
+pub mod Events

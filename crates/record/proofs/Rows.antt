@@ -6,15 +6,15 @@ use borrow.Author.Tests.{leb-true, leb-false, ltb-true, ltb-false, eqb-true, eqb
 use mathlib.Core.Path.{_≡_, refl, sym, ap, _∙_}
 use mathlib.Core.Bool.{Bool, true, false}
 use lib.Dec.{leb, ltb, eqb}
-use mathlib.Core.List.{List, [], _∷_, _++_, append-assoc, map}
-use lib.ListN.{length, getD, set, take, drop, replicate, length-append, length-replicate, length-set, length-take, List·getD-eq-default, List·getD-append, getD-replicate}
-use lib.Seq.{sets, sets-eq, length-sets, getD-set-same, getD-set-other, ext-getD, take-at, drop-append-add, getD-append-add, getD-take}
+use mathlib.Core.List.{List, [], _∷_, _++_, append-assoc, append-nil, map}
+use lib.ListN.{length, getD, set, take, drop, replicate, length-append, length-replicate, length-set, length-take, length-drop, List·getD-eq-default, List·getD-append, getD-replicate}
+use lib.Seq.{sets, sets-eq, length-sets, getD-set-same, getD-set-other, ext-getD, take-at, drop-at, drop-append-add, drop-drop, getD-append-add, getD-take, getD-drop}
 use Rattle.model.specs.declared.Op.{Op}
 use Rattle.model.specs.declared.Fragment.{Fragment}
 use Rattle.operations.specs.Laid.{padded}
 use Rattle.operations.proofs.Turns.{noOp, length-padded}
-use Rattle.record.specs.Words.{opsWords, rowWords}
-use Rattle.record.specs.View.{opAt, fragmentAt, numbersFrom, zeros}
+use Rattle.record.specs.Words.{opsWords, rowWords, over, cleared}
+use Rattle.record.specs.View.{opAt, fragmentAt, numbersFrom, shifted, zeros}
 use Rattle.record.specs.Widths.{liveWidth}
 use Rattle.record.specs.Walk.{places}
 use Rattle.record.proofs.Walks.{read-length, read-add, read-at, read-whole, walk-on, walk-end}
@@ -83,32 +83,6 @@ numbers-whole l = read-whole 0 l
 pub numbers-padded : (n : ℕ) (l : List ℕ) (m : ℕ) → length l ≡ m → numbersFrom (padded n l) 0 m ≡ l
 numbers-padded n l m e = ap (numbersFrom (padded n l) 0) (sym e) ∙ numbers-same (padded n l) l 0 0 (length l) (λ k h. getD-padded n l (0 + k)) ∙ numbers-whole l
 
--- what stands past the list of a padded row
-pub numbers-past : (n : ℕ) (g l : List ℕ) (k m : ℕ) → length g ≡ k → numbersFrom (padded n (g ++ l)) k m ≡ numbersFrom l 0 m
-numbers-past n g l k m e =
-    numbers-same (padded n (g ++ l)) l k 0 m
-    (λ j h. getD-padded n (g ++ l) (k + j) ∙ ap (λ (x : ℕ). getD (g ++ l) (x + j) 0) (sym e) ∙ getD-append-add g l j 0 ∙ (let z : j ≡ 0 + j = omega arith in ap (λ (x : ℕ). getD l x 0) z))
-
--- a row is known by its numbers
-pub padded-of : (n : ℕ) (row l : List ℕ) → length row ≡ n → length l ≤ n → ((x : ℕ) → x < n → getD row x 0 ≡ getD l x 0) → row ≡ padded n l
-padded-of n row l e h f = ext-getD 0 row (padded n l) (e ∙ sym (length-padded n l h)) (λ x k. f x (omega arith) ∙ sym (getD-padded n l x))
-
--- words laid behind the list of a padded row
-pub lay-padded : (n : ℕ) (l w : List ℕ) (at : ℕ) → length l ≡ at → at + length w ≤ n → sets (padded n l) at w ≡ padded n (l ++ w)
-unfolding padded
-lay-padded n l w at e h =
-    let z : List ℕ = zeros (n - length l) in
-    let lz : length z ≡ n - length l = length-replicate (n - length l) 0 in
-    let whole : length (l ++ z) ≡ n = length-append l z ∙ omega arith in
-    let rest : drop (at + length w) (l ++ z) ≡ drop (length w) z = ap (λ (x : ℕ). drop (x + length w) (l ++ z)) (sym e) ∙ drop-append-add l z (length w) in
-    let m : n - length l ≡ length w + (n - length (l ++ w)) = omega (arith, length-append l w) in
-    let cut : drop (length w) z ≡ zeros (n - length (l ++ w)) = ap (λ (x : ℕ). drop (length w) (zeros x)) m ∙ zeros-drop (length w) (n - length (l ++ w)) in
-    sets-eq w (l ++ z) at (omega arith) ∙ (λ i. take-at l z at e i ++ w ++ (rest ∙ cut) i)
-  where
-    zeros-drop : (a b : ℕ) → drop a (zeros (a + b)) ≡ zeros b
-    zeros-drop zero b = let z : 0 + b ≡ b = omega arith in ap zeros z
-    zeros-drop (suc a) b = let z : suc a + b ≡ suc (a + b) = omega arith in ap (λ (x : ℕ). drop (suc a) (zeros x)) z ∙ zeros-drop a b
-
 -- Runs of stores, one by one
 
 pub numbers-snoc : (l : List ℕ) (b n : ℕ) → numbersFrom l b (suc n) ≡ numbersFrom l b n ++ (getD l (b + n) 0 ∷ [])
@@ -141,19 +115,6 @@ shift-turn row₀ row row′ k i w inv ew er =
     ∙ ap (λ (x : ℕ). set (sets row₀ 0 (numbersFrom row₀ k i)) x (getD row₀ (k + i) 0)) (sym at)
     ∙ sym (sets-snoc row₀ 0 (numbersFrom row₀ k i) (getD row₀ (k + i) 0))
     ∙ ap (sets row₀ 0) (sym (numbers-snoc row₀ k i)) ∙ ap (λ (x : ℕ). sets row₀ 0 (numbersFrom row₀ k x)) (sym (add-one i))
-
-set-own : (l : List ℕ) (i : ℕ) → set l i (getD l i 0) ≡ l
-set-own [] i = refl
-set-own (x ∷ l) zero = refl
-set-own (x ∷ l) (suc i) = ap (λ (y : List ℕ). x ∷ y) (set-own l i)
-
--- shifting by nothing
-pub shift-none : (row : List ℕ) (m : ℕ) → row ≡ sets row 0 (numbersFrom row 0 m)
-unfolding numbersFrom
-shift-none row zero = refl
-shift-none row (suc m) =
-    shift-turn row row row 0 m (getD row m 0) (shift-none row m) (let z : m ≡ 0 + m = omega arith in ap (λ (x : ℕ). getD row x 0) z) (sym (set-own row m))
-    ∙ ap (λ (x : ℕ). sets row 0 (numbersFrom row 0 x)) (add-one m)
 
 pub getD-sets-before : (l : List ℕ) (i : ℕ) (ws : List ℕ) (x : ℕ) → x < i → getD (sets l i ws) x 0 ≡ getD l x 0
 getD-sets-before l i [] x h = refl
@@ -232,12 +193,19 @@ blank-turn row₀ row from i h inv =
     ap (λ (x : List ℕ). set x i 0) inv ∙ ap (λ (x : ℕ). set (sets row₀ from (zeros (i - from))) x 0) at
     ∙ sym (sets-snoc row₀ from (zeros (i - from)) 0) ∙ ap (sets row₀ from) (sym (zeros-snoc (i - from))) ∙ ap (λ (x : ℕ). sets row₀ from (zeros x)) (sym e)
 
--- a shift in two parts: what is there is moved, and what would come from past the end is cleared
-pub shift-parts : (row : List ℕ) (k m n stop : ℕ) → stop ≡ min m (length row) → n ≡ min (length row - k) stop → sets (sets row 0 (numbersFrom row k n)) n (zeros (stop - n)) ≡ sets row 0 (numbersFrom row k m)
+-- a shift in two parts: what stays is moved, and the places that it leaves are cleared
+pub shift-parts : (row : List ℕ) (k m n stop : ℕ) → stop ≡ min m (length row) → n ≡ stop - k → sets (sets row 0 (numbersFrom row k n)) n (zeros (stop - n)) ≡ shifted row k m
+unfolding shifted
 shift-parts row k m n stop es en =
-    ext-getD 0 (sets moved n (zeros (stop - n))) (sets row 0 (numbersFrom row k m)) (length-sets moved n (zeros (stop - n)) ∙ lm ∙ sym (length-sets row 0 (numbersFrom row k m)))
+    ext-getD 0 (sets moved n (zeros (stop - n))) (sets row 0 (numbersFrom src k m)) (length-sets moved n (zeros (stop - n)) ∙ lm ∙ sym (length-sets row 0 (numbersFrom src k m)))
     (λ x hx. go x (omega (arith, lm, length-sets moved n (zeros (stop - n)))) (ltb x stop) refl)
   where
+    src : List ℕ
+    src = take m row
+
+    ls : length (take m row) ≡ stop
+    ls = length-take m row ∙ sym es
+
     moved : List ℕ
     moved = sets row 0 (numbersFrom row k n)
 
@@ -247,65 +215,179 @@ shift-parts row k m n stop es en =
     lz : length (zeros (stop - n)) ≡ stop - n
     lz = length-replicate (stop - n) 0
 
-    new : (x p : ℕ) → x < p → x < length row → getD (sets row 0 (numbersFrom row k p)) x 0 ≡ getD row (k + (x - 0)) 0
-    new x p h hx = getD-sets-at row 0 (numbersFrom row k p) x (omega arith) (omega (arith, length-numbers row k p)) hx ∙ getD-numbers row k p (x - 0) (omega arith)
+    new : (x : ℕ) → x < m → x < length row → getD (sets row 0 (numbersFrom (take m row) k m)) x 0 ≡ getD (take m row) (k + (x - 0)) 0
+    new x h hx = getD-sets-at row 0 (numbersFrom src k m) x (omega arith) (omega (arith, length-numbers src k m)) hx ∙ getD-numbers src k m (x - 0) (omega arith)
 
-    inside : (x : ℕ) → x < length row → x < stop → (b : Bool) → ltb x n ≡ b → getD (sets (sets row 0 (numbersFrom row k n)) n (zeros (stop - n))) x 0 ≡ getD row (k + (x - 0)) 0
-    inside x hx hs true e = let y : x < n = ltb-true x n e in getD-sets-before moved n (zeros (stop - n)) x y ∙ new x n y hx
+    inside : (x : ℕ) → x < length row → x < stop → (b : Bool) → ltb x n ≡ b → getD (sets (sets row 0 (numbersFrom row k n)) n (zeros (stop - n))) x 0 ≡ getD (take m row) (k + (x - 0)) 0
+    inside x hx hs true e =
+        let y : x < n = ltb-true x n e in
+        getD-sets-before moved n (zeros (stop - n)) x y ∙ getD-sets-at row 0 (numbersFrom row k n) x (omega arith) (omega (arith, length-numbers row k n)) hx ∙ getD-numbers row k n (x - 0) (omega arith)
+        ∙ sym (getD-take m row (k + (x - 0)) 0 (omega arith))
     inside x hx hs false e =
         let y : n ≤ x = ltb-false x n e in
         let z : getD (zeros (stop - n)) (x - n) 0 ≡ 0 = getD-replicate (stop - n) (x - n) 0 0 (omega arith) in
-        getD-sets-at moved n (zeros (stop - n)) x y (omega (arith, lz)) (omega (arith, lm)) ∙ z ∙ sym (List·getD-eq-default row 0 {n = k + (x - 0)} (omega arith))
+        getD-sets-at moved n (zeros (stop - n)) x y (omega (arith, lz)) (omega (arith, lm)) ∙ z ∙ sym (List·getD-eq-default src 0 {n = k + (x - 0)} (omega (arith, ls)))
 
-    go : (x : ℕ) → x < length row → (b : Bool) → ltb x stop ≡ b → getD (sets (sets row 0 (numbersFrom row k n)) n (zeros (stop - n))) x 0 ≡ getD (sets row 0 (numbersFrom row k m)) x 0
-    go x hx true e = let y : x < stop = ltb-true x stop e in inside x hx y (ltb x n) refl ∙ sym (new x m (omega arith) hx)
+    go : (x : ℕ) → x < length row → (b : Bool) → ltb x stop ≡ b → getD (sets (sets row 0 (numbersFrom row k n)) n (zeros (stop - n))) x 0 ≡ getD (sets row 0 (numbersFrom (take m row) k m)) x 0
+    go x hx true e = let y : x < stop = ltb-true x stop e in inside x hx y (ltb x n) refl ∙ sym (new x (omega arith) hx)
     go x hx false e =
         let y : stop ≤ x = ltb-false x stop e in
         getD-sets-after moved n (zeros (stop - n)) x (omega (arith, lz)) ∙ getD-sets-after row 0 (numbersFrom row k n) x (omega (arith, length-numbers row k n))
-        ∙ sym (getD-sets-after row 0 (numbersFrom row k m) x (omega (arith, length-numbers row k m)))
+        ∙ sym (getD-sets-after row 0 (numbersFrom src k m) x (omega (arith, length-numbers src k m)))
 
--- the front g of a padded row shifted out
-pub shift-padded : (n : ℕ) (g l : List ℕ) (k m : ℕ) → length g ≡ k → length (g ++ l) ≡ m → m ≤ n → sets (padded n (g ++ l)) 0 (numbersFrom (padded n (g ++ l)) k m) ≡ padded n l
-shift-padded n g l k m e em h =
-    padded-of n (sets row 0 new) l (length-sets row 0 new ∙ whole) (omega (arith, length-append g l)) (λ x hx. go x (leb m x) refl)
+-- shifting by nothing
+pub shifted-none : (row : List ℕ) (m : ℕ) → row ≡ shifted row 0 m
+unfolding shifted
+shifted-none row m =
+    ext-getD 0 row (sets row 0 (numbersFrom (take m row) 0 m)) (sym (length-sets row 0 (numbersFrom (take m row) 0 m))) (λ x hx. go x hx (ltb x m) refl)
   where
-    row : List ℕ
-    row = padded n (g ++ l)
+    go : (x : ℕ) → x < length row → (b : Bool) → ltb x m ≡ b → getD row x 0 ≡ getD (sets row 0 (numbersFrom (take m row) 0 m)) x 0
+    go x hx true e =
+        let y : x < m = ltb-true x m e in
+        let z : 0 + (x - 0) ≡ x = omega arith in
+        sym (getD-sets-at row 0 (numbersFrom (take m row) 0 m) x (omega arith) (omega (arith, length-numbers (take m row) 0 m)) hx ∙ getD-numbers (take m row) 0 m (x - 0) (omega arith)
+        ∙ ap (λ (q : ℕ). getD (take m row) q 0) z ∙ getD-take m row x 0 y)
+    go x hx false e = let y : m ≤ x = ltb-false x m e in sym (getD-sets-after row 0 (numbersFrom (take m row) 0 m) x (omega (arith, length-numbers (take m row) 0 m)))
+
+-- Words laid over a row
+
+pub getD-over : (row l : List ℕ) (x : ℕ) → x < length l → getD (over row l) x 0 ≡ getD l x 0
+unfolding over
+getD-over row l x h = List·getD-append l (drop (length l) row) 0 x h
+
+pub getD-behind : (row l : List ℕ) (x : ℕ) → length l ≤ x → getD (over row l) x 0 ≡ getD row x 0
+unfolding over
+getD-behind row l x h =
+    let z : x ≡ length l + (x - length l) = omega arith in
+    ap (λ (y : ℕ). getD (l ++ drop (length l) row) y 0) z ∙ getD-append-add l (drop (length l) row) (x - length l) 0 ∙ getD-drop (length l) row (x - length l) 0 ∙ ap (λ (y : ℕ). getD row y 0) (sym z)
+
+pub length-over : (row l : List ℕ) → length l ≤ length row → length (over row l) ≡ length row
+unfolding over
+length-over row l h = length-append l (drop (length l) row) ∙ omega (arith, length-drop (length l) row)
+
+-- a row is known by its numbers
+pub over-of : (row′ row l : List ℕ) → length row′ ≡ length row → length l ≤ length row → ((x : ℕ) → x < length l → getD row′ x 0 ≡ getD l x 0) → ((x : ℕ) → length l ≤ x → getD row′ x 0 ≡ getD row x 0) → row′ ≡ over row l
+over-of row′ row l e h f g = ext-getD 0 row′ (over row l) (e ∙ sym (length-over row l h)) (λ x k. go x (ltb x (length l)) refl)
+  where
+    go : (x : ℕ) (b : Bool) → ltb x (length l) ≡ b → getD row′ x 0 ≡ getD (over row l) x 0
+    go x true t = let y : x < length l = ltb-true x (length l) t in f x y ∙ sym (getD-over row l x y)
+    go x false t = let y : length l ≤ x = ltb-false x (length l) t in g x y ∙ sym (getD-behind row l x y)
+
+-- laid over twice: the longer hides the other
+pub over-twice : (row l m : List ℕ) → length l ≤ length m → length m ≤ length row → over (over row l) m ≡ over row m
+over-twice row l m h k =
+    over-of (over (over row l) m) row m (length-over (over row l) m (omega (arith, length-over row l (omega arith))) ∙ length-over row l (omega arith)) k (λ x hx. getD-over (over row l) m x hx)
+    (λ x hx. getD-behind (over row l) m x hx ∙ getD-behind row l x (omega arith))
+
+-- a row's own words laid over it
+pub over-own : (row : List ℕ) (n : ℕ) → n ≤ length row → row ≡ over row (take n row)
+over-own row n h =
+    over-of row row (take n row) refl (omega (arith, length-take n row)) (λ x hx. sym (getD-take n row x 0 (omega (arith, length-take n row)))) (λ x hx. refl)
+
+-- words laid behind those
+pub lay-over : (row l w : List ℕ) (at : ℕ) → length l ≡ at → at + length w ≤ length row → sets (over row l) at w ≡ over row (l ++ w)
+unfolding over
+lay-over row l w at e h =
+    let z : List ℕ = drop (length l) row in
+    let lz : length z ≡ length row - length l = length-drop (length l) row in
+    let rest : drop (at + length w) (l ++ z) ≡ drop (length w) z = ap (λ (x : ℕ). drop (x + length w) (l ++ z)) (sym e) ∙ drop-append-add l z (length w) in
+    let cut : drop (length w) z ≡ drop (length (l ++ w)) row = drop-drop (length w) (length l) row ∙ ap (λ (x : ℕ). drop x row) (sym (length-append l w)) in
+    sets-eq w (l ++ z) at (omega (arith, length-append l z)) ∙ (λ i. take-at l z at e i ++ w ++ (rest ∙ cut) i)
+
+-- words laid over others of the same length
+sets-middle : (a x z w : List ℕ) → length x ≡ length w → sets (a ++ (x ++ z)) (length a) w ≡ a ++ (w ++ z)
+sets-middle a x z w e =
+    let n : length a + length w ≡ length (a ++ x) = omega (arith, length-append a x) in
+    let l : List ℕ = a ++ (x ++ z) in
+    sets-eq w l (length a) (omega (arith, length-append a (x ++ z), length-append x z)) ∙ append-assoc (take (length a) l) w (drop (length a + length w) l)
+    ∙ (λ i. take-at a (x ++ z) (length a) refl i ++ (w ++ (ap (λ (k : ℕ). drop k l) n ∙ ap (drop (length (a ++ x))) (sym (append-assoc a x z)) ∙ drop-at (a ++ x) z (length (a ++ x)) refl) i))
+
+pub relay-over : (row a x z w : List ℕ) (at : ℕ) → length a ≡ at → length x ≡ length w → sets (over row (a ++ (x ++ z))) at w ≡ over row (a ++ (w ++ z))
+unfolding over
+relay-over row a x z w at ea e =
+    let size : length (a ++ (x ++ z)) ≡ length (a ++ (w ++ z)) = omega (arith, length-append a (x ++ z), length-append a (w ++ z), length-append x z, length-append w z) in
+    let rest : List ℕ = drop (length (a ++ (x ++ z))) row in
+    (λ i. sets (shape x rest i) (sym ea i) w) ∙ sets-middle a x (z ++ rest) w e ∙ sym (shape w rest) ∙ ap (λ (n : ℕ). (a ++ (w ++ z)) ++ drop n row) size
+  where
+    shape : (y r : List ℕ) → (a ++ (y ++ z)) ++ r ≡ a ++ (y ++ (z ++ r))
+    shape y r = append-assoc a (y ++ z) r ∙ ap (λ (q : List ℕ). a ++ q) (append-assoc y z r)
+
+-- the first of them, g, shifted out of a row that has zeros behind the others
+pub shift-over : (row g l : List ℕ) (k m : ℕ) → length g ≡ k → length (g ++ l) ≡ m → m ≤ length row → ((x : ℕ) → x < m → getD row x 0 ≡ 0) → shifted (over row (g ++ l)) k m ≡ over row l
+unfolding shifted over
+shift-over row g l k m e em h zero-there =
+    over-of (sets old 0 new) row l (length-sets old 0 new ∙ lo) (omega (arith, length-append g l))
+    (λ x hx. inside x (omega (arith, length-append g l)))
+    (λ x hx. behind x hx (ltb x m) refl)
+  where
+    old : List ℕ
+    old = over row (g ++ l)
+
+    lo : length (over row (g ++ l)) ≡ length row
+    lo = length-over row (g ++ l) (omega arith)
+
+    cut : take m (over row (g ++ l)) ≡ g ++ l
+    cut = take-at (g ++ l) (drop (length (g ++ l)) row) m em
 
     new : List ℕ
-    new = numbersFrom (padded n (g ++ l)) k m
+    new = numbersFrom (take m (over row (g ++ l))) k m
 
-    whole : length (padded n (g ++ l)) ≡ n
-    whole = length-padded n (g ++ l) (omega arith)
+    ln : length (numbersFrom (take m (over row (g ++ l))) k m) ≡ m
+    ln = length-numbers (take m (over row (g ++ l))) k m
 
-    ln : length (numbersFrom (padded n (g ++ l)) k m) ≡ m
-    ln = length-numbers (padded n (g ++ l)) k m
+    inside : (x : ℕ) → x < m → getD (sets (over row (g ++ l)) 0 (numbersFrom (take m (over row (g ++ l))) k m)) x 0 ≡ getD l x 0
+    inside x hx =
+        getD-sets-in old new x (omega (arith, ln, lo)) (omega (arith, ln)) ∙ getD-numbers (take m old) k m x hx ∙ ap (λ (q : List ℕ). getD q (k + x) 0) cut ∙ ap (λ (q : ℕ). getD (g ++ l) (q + x) 0) (sym e) ∙ getD-append-add g l x 0
 
-    go : (x : ℕ) (b : Bool) → leb m x ≡ b → getD (sets (padded n (g ++ l)) 0 (numbersFrom (padded n (g ++ l)) k m)) x 0 ≡ getD l x 0
-    go x true c =
-        let y : m ≤ x = leb-true m x c in
-        getD-sets-after row 0 new x (omega (arith, ln)) ∙ getD-padded n (g ++ l) x ∙ List·getD-eq-default (g ++ l) 0 {n = x} (omega arith) ∙ sym (List·getD-eq-default l 0 {n = x} (omega (arith, length-append g l)))
-    go x false c =
-        let y : x < m = leb-false m x c in
-        let z : 0 + x ≡ x = omega arith in
-        getD-sets-in row new x (omega (arith, ln, whole)) (omega (arith, ln)) ∙ ap (λ (q : List ℕ). getD q x 0) (numbers-past n g l k m e) ∙ getD-numbers l 0 m x y ∙ ap (λ (q : ℕ). getD l q 0) z
+    behind : (x : ℕ) → length l ≤ x → (b : Bool) → ltb x m ≡ b → getD (sets (over row (g ++ l)) 0 (numbersFrom (take m (over row (g ++ l))) k m)) x 0 ≡ getD row x 0
+    behind x hx true t = let y : x < m = ltb-true x m t in inside x y ∙ List·getD-eq-default l 0 {n = x} hx ∙ sym (zero-there x y)
+    behind x hx false t = let y : m ≤ x = ltb-false x m t in getD-sets-after old 0 new x (omega (arith, ln)) ∙ getD-behind row (g ++ l) x (omega arith)
 
--- a row cleared from place n on
-pub cleared : (row : List ℕ) (n start : ℕ) → start ≡ min n (length row) → sets row start (zeros (length row - start)) ≡ padded (length row) (take n row)
-cleared row n start e =
-    padded-of (length row) (sets row start (zeros (length row - start))) (take n row) (length-sets row start (zeros (length row - start))) (omega (arith, length-take n row)) (λ x hx. go x hx (ltb x n) refl)
+-- the places that were cleared
+pub cleared-zero : (n : ℕ) (row : List ℕ) (x : ℕ) → x < n → getD (cleared n row) x 0 ≡ 0
+cleared-zero n row x h = let z : length (zeros n) ≡ n = length-replicate n 0 in getD-over row (zeros n) x (omega (arith, z)) ∙ getD-replicate n x 0 0 h
+
+pub length-cleared : (n : ℕ) (row : List ℕ) → n ≤ length row → length (cleared n row) ≡ length row
+length-cleared n row h = let z : length (zeros n) ≡ n = length-replicate n 0 in length-over row (zeros n) (omega (arith, z))
+
+-- no words hide nothing
+pub over-none : (row : List ℕ) → over row [] ≡ row
+unfolding over
+over-none row = refl
+
+-- the first n words shifted out
+pub shift-all : (row : List ℕ) (n : ℕ) → n ≤ length row → shifted row n n ≡ cleared n row
+shift-all row n h =
+    let lz : length (zeros n) ≡ n = length-replicate n 0 in
+    let lt : length (take n row) ≡ n = length-take n row ∙ omega arith in
+    let la : length (take n row ++ []) ≡ n = ap length (append-nil (take n row)) ∙ lt in
+    ap (λ (x : List ℕ). shifted x n n) (over-own row n h ∙ ap (over row) (sym (append-nil (take n row))) ∙ sym (over-twice row (zeros n) (take n row ++ []) (omega (arith, la, lz)) (omega (arith, la))))
+    ∙ shift-over (cleared n row) (take n row) [] n n lt la (omega (arith, length-cleared n row h)) (λ x hx. cleared-zero n row x hx) ∙ over-none (cleared n row)
+
+-- a row of zeros has them behind any words
+pub padded-over : (n : ℕ) (l : List ℕ) → padded n l ≡ over (zeros n) l
+unfolding padded over
+padded-over n l = ap (λ (x : List ℕ). l ++ x) (go (length l) n)
   where
-    lz : length (zeros (length row - start)) ≡ length row - start
-    lz = length-replicate (length row - start) 0
+    go : (a n : ℕ) → zeros (n - a) ≡ drop a (zeros n)
+    go zero n = let z : n - 0 ≡ n = omega arith in ap zeros z
+    go (suc a) zero = let z : 0 - suc a ≡ 0 = omega arith in ap zeros z
+    go (suc a) (suc n) = let z : suc n - suc a ≡ n - a = omega arith in ap zeros z ∙ go a n
 
-    go : (x : ℕ) → x < length row → (b : Bool) → ltb x n ≡ b → getD (sets row start (zeros (length row - start))) x 0 ≡ getD (take n row) x 0
-    go x hx true t =
-        let y : x < n = ltb-true x n t in
-        getD-sets-before row start (zeros (length row - start)) x (omega arith) ∙ sym (getD-take n row x 0 y)
-    go x hx false t =
+-- a row that holds words and zeros, cleared as far as its words go: zeros alone
+pub cleared-padded : (m n : ℕ) (l : List ℕ) → length l ≤ n → n ≤ m → cleared n (padded m l) ≡ zeros m
+cleared-padded m n l h k =
+    let lp : length (padded m l) ≡ m = length-padded m l (omega arith) in
+    let lc : length (cleared n (padded m l)) ≡ m = length-cleared n (padded m l) (omega (arith, lp)) ∙ lp in
+    let lz : length (zeros m) ≡ m = length-replicate m 0 in
+    let ln : length (zeros n) ≡ n = length-replicate n 0 in
+    ext-getD 0 (cleared n (padded m l)) (zeros m) (lc ∙ sym lz) (λ x hx. go x ln (omega (arith, lc)) (ltb x n) refl)
+  where
+    go : (x : ℕ) → length (zeros n) ≡ n → x < m → (b : Bool) → ltb x n ≡ b → getD (cleared n (padded m l)) x 0 ≡ getD (zeros m) x 0
+    go x ln hx true t = let y : x < n = ltb-true x n t in cleared-zero n (padded m l) x y ∙ sym (getD-replicate m x 0 0 hx)
+    go x ln hx false t =
         let y : n ≤ x = ltb-false x n t in
-        let z : getD (zeros (length row - start)) (x - start) 0 ≡ 0 = getD-replicate (length row - start) (x - start) 0 0 (omega arith) in
-        getD-sets-at row start (zeros (length row - start)) x (omega arith) (omega (arith, lz)) hx ∙ z ∙ sym (List·getD-eq-default (take n row) 0 {n = x} (omega (arith, length-take n row)))
+        getD-behind (padded m l) (zeros n) x (omega (arith, ln)) ∙ getD-padded m l x ∙ List·getD-eq-default l 0 {n = x} (omega arith) ∙ sym (getD-replicate m x 0 0 hx)
 
 -- Eight places, one by one
 

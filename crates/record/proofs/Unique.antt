@@ -3,14 +3,18 @@ use mathlib.Core.Path.{_≡_, refl}
 use Rattle.model.proofs.Unique.{Unique}
 use Rattle.record.proofs.fragment_at.Kinds as fragment-at-kinds
 use Rattle.record.proofs.fragment_at.Reads as fragment-at
+use Rattle.record.proofs.words_from.Kinds as words-from-kinds
+use Rattle.record.proofs.words_from.Reads as words-from
 use Rattle.record.proofs.row_words.Kinds as row-words-kinds
 use Rattle.record.proofs.row_words.Reads as row-words
+use Rattle.record.proofs.event_of.Kinds as event-of-kinds
+use Rattle.record.proofs.event_of.Reads as event-of
+use Rattle.record.proofs.event_words.Kinds as event-words-kinds
+use Rattle.record.proofs.event_words.Reads as event-words
 use Rattle.record.proofs.lay.Kinds as lay-kinds
 use Rattle.record.proofs.lay.Reads as lay
 use Rattle.record.proofs.shift.Kinds as shift-kinds
 use Rattle.record.proofs.shift.Reads as shift
-use Rattle.record.proofs.clear.Kinds as clear-kinds
-use Rattle.record.proofs.clear.Reads as clear
 use Rattle.record.proofs.Counts.accepts.Kinds as accepts-kinds
 use Rattle.record.proofs.Counts.accepts.Reads as accepts
 use Rattle.record.proofs.Counts.waits.Kinds as waits-kinds
@@ -29,8 +33,17 @@ use Rattle.record.proofs.start.Reads as start
 pub fragment-at-unique : Unique fragment-at-kinds.ps fragment-at-kinds.r fragment-at.Learnt
 fragment-at-unique κs a z z′ ws ws′ p q = (cc, refl)
 
+pub words-from-unique : Unique words-from-kinds.ps words-from-kinds.r words-from.Learnt
+words-from-unique κs a z z′ ws ws′ p q = (cc, refl)
+
 pub row-words-unique : Unique row-words-kinds.ps row-words-kinds.r row-words.Learnt
 row-words-unique κs a z z′ ws ws′ p q = (cc, refl)
+
+pub event-of-unique : Unique event-of-kinds.ps event-of-kinds.r event-of.Learnt
+event-of-unique κs a z z′ ws ws′ p q = (cc, refl)
+
+pub event-words-unique : Unique event-words-kinds.ps event-words-kinds.r event-words.Learnt
+event-words-unique κs a z z′ ws ws′ p q = (cc, refl)
 
 pub lay-unique : Unique lay-kinds.ps lay-kinds.r lay.Learnt
 lay-unique κs a z z′ ws ws′ p q =
@@ -39,11 +52,6 @@ lay-unique κs a z z′ ws ws′ p q =
 
 pub shift-unique : Unique shift-kinds.ps shift-kinds.r shift.Learnt
 shift-unique κs a z z′ ws ws′ p q =
-    let b : ws .0 ≡ ws′ .0 = cc in
-    (refl, λ j. (b j, ws .1))
-
-pub clear-unique : Unique clear-kinds.ps clear-kinds.r clear.Learnt
-clear-unique κs a z z′ ws ws′ p q =
     let b : ws .0 ≡ ws′ .0 = cc in
     (refl, λ j. (b j, ws .1))
 

@@ -5,3 +5,4 @@ pub mod Words
 pub mod Start
 pub mod View
 pub mod Fitting
+pub mod Events

@@ -2,31 +2,19 @@
 use Prim.Native.Nat.{ℕ, _+_, _*_}
 use mathlib.Core.List.{List, [], _∷_, map, foldr}
 use lib.Dec.{eqb}
-use lib.ListN.{getD, replicate}
+use lib.ListN.{getD, replicate, take}
+use lib.Seq.{sets}
 use Rattle.model.specs.Operations.{Outcome, pick}
 use Rattle.model.specs.Transactions.{State, Running, Finished, Failed, NoState, Reply, Held, Sent, NoReply, Uncommitted, Waiting, Engine}
-use Rattle.model.specs.declared.Op.{Op}
-use Rattle.model.specs.declared.Fragment.{Fragment}
 use Rattle.operations.specs.Laid.{entriesOf}
+pub use Rattle.operations.specs.Words.{opAt}
+unfoldable pub use Rattle.operations.specs.Words.{fragmentAt}
 use Rattle.record.specs.declared.Counts.{Counts}
 use Rattle.record.specs.declared.Record.{Record}
 use Rattle.record.specs.Widths.{liveWidth, runWidth, entryWidth}
 use Rattle.record.specs.Walk.{walk, places}
 
--- the operation whose words start at b
-abbrev pub opAt : List ℕ → ℕ → Op
-opAt l b = record { code = getD l b 0; cell = getD l (b + 1) 0; amount = getD l (b + 2) 0 }
-
--- the fragment of the transaction whose words start at b
-unfoldable pub fragmentAt : List ℕ → ℕ → Fragment
-fragmentAt l b = record {
-  flags = getD l (b + 1) 0;
-  coordinator = getD l (b + 2) 0;
-  count = getD l (b + 3) 0;
-  row = opAt l (b + 4) ∷ opAt l (b + 7) ∷ opAt l (b + 10) ∷ opAt l (b + 13) ∷ opAt l (b + 16) ∷ opAt l (b + 19) ∷ opAt l (b + 22) ∷ opAt l (b + 25) ∷ [];
-}
-
--- its attempt, the row's last word
+-- the attempt of the transaction whose words start at b, the row's last word
 abbrev pub attemptAt : List ℕ → ℕ → ℕ
 attemptAt l b = getD l (b + 28) 0
 
@@ -41,6 +29,10 @@ waitingOf l b n = map (rowAt l) (places b liveWidth n)
 -- n numbers from b on
 unfoldable pub numbersFrom : List ℕ → ℕ → ℕ → List ℕ
 numbersFrom l b n = map (λ (p : ℕ). getD l p 0) (places b 1 n)
+
+-- a row whose first m words have moved k places to its start: 0 comes from past them
+unfoldable pub shifted : List ℕ → ℕ → ℕ → List ℕ
+shifted row k m = sets row 0 (numbersFrom (take m row) k m)
 
 -- n zeros
 abbrev pub zeros : ℕ → List ℕ

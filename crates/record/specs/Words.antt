@@ -1,13 +1,14 @@
--- How the record's lists stand in its rows of numbers: 29 words a live transaction, 16 a run, 2 an undo entry; unused places are zero.
+-- How the record's lists stand in its rows of numbers: 29 words a live transaction, 16 a run, 2 an undo entry; and what stands in the places behind them.
 use Prim.Native.Nat.{ℕ}
 use mathlib.Core.List.{List, [], _∷_, _++_, map}
-use lib.ListN.{length}
+use lib.ListN.{length, drop}
 use Rattle.model.specs.Operations.{Outcome}
 use Rattle.model.specs.Transactions.{State, Running, Finished, Failed, NoState, Reply, Held, Sent, NoReply, Uncommitted, Waiting, Engine, undoList}
 use Rattle.model.specs.declared.Op.{Op}
 use Rattle.model.specs.declared.Fragment.{Fragment}
 use Rattle.operations.specs.Laid.{padded, flat}
 use Rattle.record.specs.declared.Record.{Record}
+use Rattle.record.specs.View.{zeros}
 use Rattle.record.specs.Widths.{liveLength, runsLength, undoLength}
 
 -- eight times code, cell, amount
@@ -63,6 +64,23 @@ rowOf u = record { number = u .number; attempt = u .attempt; fragment = u .first
 -- the live ones in number order, as they stand in rows: uncommitted, then waiting
 abbrev pub liveRows : List Uncommitted → List Waiting → List Waiting
 liveRows us ws = map rowOf us ++ ws
+
+-- words laid over the start of a row: what stands behind them stays
+unfoldable pub over : List ℕ → List ℕ → List ℕ
+over row ws = ws ++ drop (length ws) row
+
+-- a row with its first n places cleared
+abbrev pub cleared : ℕ → List ℕ → List ℕ
+cleared n row = over row (zeros n)
+
+-- a record that means e, laid over three rows
+unfoldable pub packOver : List ℕ → List ℕ → List ℕ → Engine → Record
+packOver live runs undo e = record {
+  counts = record { cells = e .count; largest = e .largest; uncommitted = length (e .uncommitted); waiting = length (e .waiting) };
+  live = over live (allRows (liveRows (e .uncommitted) (e .waiting)));
+  runs = over runs (allRuns (e .uncommitted));
+  undo = over undo (flat (undoList (e .uncommitted)));
+}
 
 -- a record that means e, every unused place zero
 unfoldable pub pack : Engine → Record

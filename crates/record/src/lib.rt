@@ -2,14 +2,15 @@
 ghost use Rattle.record.specs.Widths.{opsEnd, liveWidth};
 ghost use mathlib.Core.Path.{_≡_};
 ghost use Prim.Native.Nat.{_+_, _*_, _-_, _<_, _≤_, min};
-ghost use lib.ListN.{length, getD, take};
+ghost use lib.ListN.{length, getD};
 ghost use lib.Seq.{sets};
 ghost use Rattle.model.specs.Refusals as Refusals;
 ghost use Rattle.record.specs.Words.{rowWords, pack};
+ghost use Rattle.record.specs.Events.{eventOf, wordsOf};
 ghost use Rattle.record.specs.Start.{freshOf};
-ghost use Rattle.record.specs.View.{opAt, fragmentAt, attemptAt, numbersFrom, zeros};
-ghost use Rattle.operations.specs.Laid.{padded};
+ghost use Rattle.record.specs.View.{opAt, fragmentAt, attemptAt, numbersFrom, shifted, zeros};
 ghost use Rattle.record.specs.Ends.{capped, endsAt, largestAt, largestBy};
+use model::Event;
 use model::Fragment;
 use model::Op;
 
@@ -196,7 +197,7 @@ pub(crate) fn lay_in(row: &mut [u32], at: usize, words: &[u32], from: usize, n: 
 
 // The 29 words from a place on, 0 past the row's end. Few calls come here: the loop is as long as what is there, so that it stays a loop and
 // does not spread over the ways that read a row whole.
-pub(crate) fn words_from(row: &[u32], at: usize) -> [u32; LIVE_WORDS]
+pub fn words_from(row: &[u32], at: usize) -> [u32; LIVE_WORDS]
     ensures { λ r. ⌜ r ≡ numbersFrom (now (row .entry)) at liveWidth ⌝ }
 {
     let mut words = [0u32; LIVE_WORDS];
@@ -296,6 +297,37 @@ pub fn row_words(number: u32, attempt: u32, f: Fragment) -> [u32; LIVE_WORDS]
     ]
 }
 
+// The event that words stand for: 29 of them, or one that is not well formed.
+pub fn event_of(words: &[u32]) -> Event
+    ensures { λ r. ⌜ r ≡ eventOf (now (words .entry)) ⌝ }
+{
+    let fragment = fragment_at(words, 1);
+    let number = operations::number_at(words, 1);
+    if words.len() != model::EVENT_WORDS as usize {
+        return Event {
+            kind: 0,
+            number: number,
+            fragment: fragment,
+        };
+    }
+    Event {
+        kind: operations::number_at(words, 0),
+        number: number,
+        fragment: fragment,
+    }
+}
+
+// The 29 words that stand for an event: its kind, and a live transaction's row but for the attempt.
+pub fn event_words(v: Event) -> [u32; model::EVENT_WORDS as usize]
+    ensures { λ r. ⌜ r ≡ wordsOf v ⌝ }
+{
+    let f = v.fragment;
+    let row = row_words(v.number, 0, f);
+    let mut words = [v.kind; model::EVENT_WORDS as usize];
+    lay_in(&mut words, 1, &row, 0, OPS_END);
+    words
+}
+
 // Lays words of which some, or their places, may stand past an end.
 pub(crate) fn lay_past(row: &mut [u32], at: u32, words: &[u32], n: u32)
     ensures { λ _. ⌜ now (row .exit) ≡ sets (now (row .entry)) at (numbersFrom (now (words .entry)) 0 n) ⌝ }
@@ -348,9 +380,9 @@ pub(crate) fn blank(row: &mut [u32], from: usize, to: usize)
     }
 }
 
-// Moves the words of a row that stand k places further on to its start: the first m places get them, 0 from past its end.
+// Moves the first m words of a row k places to its start; the places that they leave are cleared.
 pub fn shift(row: &mut [u32], k: u32, m: u32)
-    ensures { λ _. ⌜ now (row .exit) ≡ sets (now (row .entry)) 0 (numbersFrom (now (row .entry)) k m) ⌝ }
+    ensures { λ _. ⌜ now (row .exit) ≡ shifted (now (row .entry)) k m ⌝ }
 {
     // most calls move nothing
     if k == 0 {
@@ -359,19 +391,9 @@ pub fn shift(row: &mut [u32], k: u32, m: u32)
     let from = k as usize;
     let len = row.len();
     let stop = least(m as usize, len);
-    let there = less(len, from);
-    let n = least(there, stop);
+    let n = less(stop, from);
     move_down(row, from, n);
     blank(row, n, stop);
-}
-
-// Clears a row from place n on.
-pub fn clear(row: &mut [u32], n: u32)
-    ensures { λ _. ⌜ now (row .exit) ≡ padded (length (now (row .entry))) (take n (now (row .entry))) ⌝ }
-{
-    let len = row.len();
-    let start = least(n as usize, len);
-    blank(row, start, len);
 }
 
 // A record of so many cells with nothing live.

@@ -2,17 +2,23 @@
 use Prim.Native.Nat.{ℕ, _+_, _*_, _-_, _≤_, _<_}
 use native.Mathlib.Omega.{arith}
 use mathlib.Core.Path.{_≡_, refl, sym, ap, _∙_, subst}
-use mathlib.Core.Bool.{Bool, true, false, not, _&&_, _||_}
+use mathlib.Core.Bool.{Bool, true, false, not, _&&_, _||_, true≢false}
 use mathlib.Core.List.{List, [], _∷_, _++_, map}
-use lib.Dec.{eqb}
-use lib.ListN.{getD}
-use borrow.Author.Tests.{eqb-true, eq-eqb, ne-eqb}
-use Rattle.model.specs.Operations.{pick}
+use lib.Dec.{leb, ltb, eqb}
+use lib.ListN.{length, getD}
+use borrow.Author.Tests.{eqb-true, eq-eqb, ne-eqb, le-leb, lt-leb}
+use Rattle.model.specs.Limits.{leastRoom, eventWords}
+use Rattle.model.specs.Operations.{Cells, pick}
 use Rattle.model.specs.Transactions.{Engine, Running, Finished, Failed, NoState, finished, failed}
-use Rattle.model.specs.Refusals.{Call, firstOf, isIn, rows, refusal, sound}
+use Rattle.model.specs.Refusals.{Call, firstOf, isIn, rows, refusal, sound, formed, blank, inside}
+use Rattle.model.specs.declared.Event.{Event}
+use Rattle.model.specs.declared.Fragment.{Fragment}
+use Rattle.model.proofs.Tests.{and-left, and-right}
 use Rattle.record.specs.View.{stateOf}
+use Rattle.record.specs.Events.{eventOf}
+use Rattle.record.proofs.Events.{kind-by}
 use Rattle.record.proofs.Walks.{walk-on, walk-end}
-use Rattle.refusals.specs.Rest.{behindFirst, rowNumbers}
+use Rattle.refusals.specs.Rest.{behindFirst, rowNumbers, arrivalRows, eventRows, shapeRows}
 use Rattle.record.specs.Widths.{liveWidth}
 
 -- rows in two parts: where the first part answers, and where it does not
@@ -91,23 +97,86 @@ failed-word n h = go (eqb n 1) (eqb n 2) refl refl (sym (finished-word n) ∙ h)
     go false true e f t = subst (λ (x : ℕ). failed (stateOf x) ≡ eqb x 2) (sym (eqb-true n 2 f)) refl
     go false false e f t = absurd (mathlib.Core.Bool.true≢false (sym t))
 
--- what an event asks for, by its kind
-pub or-false : (a : Bool) → a ≡ (a || false)
+-- rows 4 and 5 of an arrival's fragment, by whether it is formed and inside
+module _ (f i : Bool) where
+  abbrev arrival : ℕ
+  arrival = firstOf ((4, not f) ∷ (5, not i) ∷ [])
+
+  pub arrival-storable : (f && i) ≡ true → 0 ≡ arrival
+  arrival-storable h = λ j. firstOf ((4, not (sym (and-left f i h) j)) ∷ (5, not (sym (and-right f i h) j)) ∷ [])
+
+  pub arrival-unformed : f ≡ false → 4 ≡ arrival
+  arrival-unformed e = rw e
+
+  pub arrival-outside : (f && i) ≡ false → f ≡ true → 5 ≡ arrival
+  arrival-outside h e = let o : i ≡ false = ap (λ (x : Bool). x && i) (sym e) ∙ h in rw (e, o)
+
+-- and of an event, by its number and its kind
+or-false : (a : Bool) → a ≡ (a || false)
 or-false true = refl
 or-false false = refl
 
-module _ (k : ℕ) (a b : Bool) where
-  pub of-fragment : k ≡ 1 → a ≡ (eqb k 1 && a || (eqb k 2 || eqb k 3) && b)
-  of-fragment e = subst (λ (x : ℕ). a ≡ (eqb x 1 && a || (eqb x 2 || eqb x 3) && b)) (sym e) (or-false a)
+module _ (count : ℕ) (v : Event) where
+  abbrev f : Fragment
+  f = v .fragment
 
-  pub of-commit : k ≡ 2 → b ≡ (eqb k 1 && a || (eqb k 2 || eqb k 3) && b)
-  of-commit e = subst (λ (x : ℕ). b ≡ (eqb x 1 && a || (eqb x 2 || eqb x 3) && b)) (sym e) refl
+  abbrev formedBy : Bool → Bool → Bool → ℕ
+  formedBy one two three = firstOf ((4, not (leb 1 (v .number) && (one && formed f || (two || three) && blank f))) ∷ (5, one && not (inside count f)) ∷ [])
 
-  pub of-abort : k ≡ 3 → b ≡ (eqb k 1 && a || (eqb k 2 || eqb k 3) && b)
-  of-abort e = subst (λ (x : ℕ). b ≡ (eqb x 1 && a || (eqb x 2 || eqb x 3) && b)) (sym e) refl
+  pub event-numberless : v .number < 1 → 4 ≡ firstOf (eventRows count v)
+  event-numberless h = rw (lt-leb 1 (v .number) h)
 
-  pub of-none : (k ≡ 1 → ⊥) → (k ≡ 2 → ⊥) → (k ≡ 3 → ⊥) → false ≡ (eqb k 1 && a || (eqb k 2 || eqb k 3) && b)
-  of-none e f g = rw (ne-eqb k 1 e, ne-eqb k 2 f, ne-eqb k 3 g)
+  pub event-unknown : (v .kind ≡ 1 → ⊥) → (v .kind ≡ 2 → ⊥) → (v .kind ≡ 3 → ⊥) → 4 ≡ firstOf (eventRows count v)
+  event-unknown e₁ e₂ e₃ = none (leb 1 (v .number)) ∙ (λ j. formedBy (sym (ne-eqb (v .kind) 1 e₁) j) (sym (ne-eqb (v .kind) 2 e₂) j) (sym (ne-eqb (v .kind) 3 e₃) j))
+    where
+      none : (b : Bool) → _≡_ {A = ℕ} 4 (firstOf ((4, not (b && false)) ∷ (5, false) ∷ []))
+      none true = refl
+      none false = refl
+
+  module _ (h : 1 ≤ v .number) where
+    pub event-arrives : v .kind ≡ 1 → firstOf (arrivalRows count f) ≡ firstOf (eventRows count v)
+    event-arrives e =
+        let k : eqb (v .kind) 1 ≡ true = eq-eqb (v .kind) 1 e in
+        let two : eqb (v .kind) 2 ≡ false = ap (λ (x : ℕ). eqb x 2) e in
+        let three : eqb (v .kind) 3 ≡ false = ap (λ (x : ℕ). eqb x 3) e in
+        (λ j. firstOf ((4, not (or-false (formed f) j)) ∷ (5, not (inside count f)) ∷ []))
+        ∙ (λ j. firstOf ((4, not (sym (le-leb 1 (v .number) h) j && (sym k j && formed f || (sym two j || sym three j) && blank f))) ∷ (5, sym k j && not (inside count f)) ∷ []))
+
+    module _ (low : 2 ≤ v .kind) (high : v .kind ≤ 3) where
+      decision : (b : Bool) → blank f ≡ b → firstOf ((4, not b) ∷ []) ≡ firstOf (eventRows count v)
+      decision b e =
+          let one : eqb (v .kind) 1 ≡ false = ne-eqb (v .kind) 1 (λ x. omega arith) in
+          let either : (eqb (v .kind) 2 || eqb (v .kind) 3) ≡ true = go (eqb (v .kind) 2) refl in
+          λ j. firstOf ((4, not (sym (le-leb 1 (v .number) h) j && (sym one j && formed f || sym either j && sym e j))) ∷ (5, sym one j && not (inside count f)) ∷ [])
+        where
+          go : (t : Bool) → eqb (v .kind) 2 ≡ t → (t || eqb (v .kind) 3) ≡ true
+          go true q = refl
+          go false q = eq-eqb (v .kind) 3 (let n : v .kind ≡ 2 → ⊥ = λ x. true≢false (sym (eq-eqb (v .kind) 2 x) ∙ q) in three-of n)
+            where
+              three-of : (v .kind ≡ 2 → ⊥) → v .kind ≡ 3
+              three-of n = omega arith
+
+      pub event-decides : blank f ≡ true → 0 ≡ firstOf (eventRows count v)
+      event-decides e = decision true e
+
+      pub event-more : blank f ≡ false → 4 ≡ firstOf (eventRows count v)
+      event-more e = decision false e
+
+-- an event whose shape is right has all its words
+pub shape-length : (count : ℕ) (l : List ℕ) (cells : Cells) (room : List ℕ) (s : ℕ) → s ≡ firstOf (shapeRows count (eventOf l) cells room) → s ≡ 0 → length l ≡ eventWords
+shape-length count l cells room s es z = go (eqb (length l) eventWords) refl
+  where
+    behind : (a b : Bool) (rs : List (ℕ × Bool)) → firstOf ((2, a) ∷ (3, b) ∷ rs) ≡ 0 → firstOf rs ≡ 0
+    behind true b rs h = absurd (omega (arith, h))
+    behind false true rs h = absurd (omega (arith, h))
+    behind false false rs h = h
+
+    go : (t : Bool) → eqb (length l) eventWords ≡ t → length l ≡ eventWords
+    go true t = eqb-true (length l) eventWords t
+    go false t =
+        let k : 0 ≡ eventOf l .kind = kind-by false l t in
+        let four : 4 ≡ firstOf (eventRows count (eventOf l)) = event-unknown count (eventOf l) (λ x. omega arith) (λ x. omega arith) (λ x. omega arith) in
+        absurd (omega (arith, four ∙ behind (ltb (length room) leastRoom) (eqb (length cells) 0 || not (eqb (length cells) count)) (eventRows count (eventOf l)) (sym es ∙ z)))
 
 -- rows 8 to 11, and 12 to 14, from what they ask
 abbrev pub asked : (front ready other full ran : Bool) → ℕ

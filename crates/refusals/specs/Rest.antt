@@ -7,7 +7,7 @@ use lib.ListN.{length, getD}
 use Rattle.model.specs.Limits.{mostFragments, mostLive, leastRoom}
 use Rattle.model.specs.Operations.{Cells, multi}
 use Rattle.model.specs.Transactions.{finished, failed}
-use Rattle.model.specs.Refusals.{Call, formedEvent, inside}
+use Rattle.model.specs.Refusals.{Call, formed, formedEvent, inside}
 use Rattle.model.specs.declared.Fragment.{Fragment}
 use Rattle.model.specs.declared.Event.{Event}
 use Rattle.model.specs.declared.Scheme.{Scheme}
@@ -35,14 +35,22 @@ frontIs u live n = not (eqb u 0) && eqb (getD live 0 0) n
 abbrev pub foreign : List ℕ → Fragment → Bool
 foreign live f = not (multi f) || not (eqb (getD live 2 0) (f .coordinator))
 
+-- rows 4 and 5, of an event, and as they are of an arrival's fragment
+abbrev pub eventRows : ℕ → Event → List (ℕ × Bool)
+eventRows count v =
+    (4, not (formedEvent v))
+    ∷ (5, eqb (v .kind) 1 && not (inside count (v .fragment)))
+    ∷ []
+
+abbrev pub arrivalRows : ℕ → Fragment → List (ℕ × Bool)
+arrivalRows count f = (4, not (formed f)) ∷ (5, not (inside count f)) ∷ []
+
 -- rows 2 to 5
 abbrev pub shapeRows : ℕ → Event → Cells → List ℕ → List (ℕ × Bool)
 shapeRows count v cells room =
     (2, ltb (length room) leastRoom)
     ∷ (3, eqb (length cells) 0 || not (eqb (length cells) count))
-    ∷ (4, not (formedEvent v))
-    ∷ (5, eqb (v .kind) 1 && not (inside count (v .fragment)))
-    ∷ []
+    ∷ eventRows count v
 
 -- rows 6 and 7: is the number live, is it new, is it the front's
 abbrev pub knownRows : Bool → Bool → Bool → List (ℕ × Bool)

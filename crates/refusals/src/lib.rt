@@ -5,38 +5,55 @@ ghost use Prim.Native.Nat.{_+_};
 ghost use lib.Dec.{leb};
 ghost use Rattle.model.specs.Limits.{mostLive};
 ghost use Rattle.model.specs.Transactions.{finished};
-ghost use Rattle.model.specs.Refusals.{rows, firstOf, refusal, formedEvent, isIn};
+ghost use Rattle.model.specs.Refusals.{rows, firstOf, refusal, isIn};
 ghost use Rattle.model.specs.declared.Scheme.{Scheme};
 ghost use Rattle.record.specs.View.{viewBy, stateOf};
-ghost use Rattle.refusals.specs.Rest.{callOf, behindFirst, rowNumbers, frontIs, foreign, shapeRows, knownRows, fragmentRows, decisionRows};
-use model::Event;
-use model::Fragment;
+ghost use Rattle.record.specs.Events.{eventOf};
+ghost use Rattle.refusals.specs.Rest.{callOf, behindFirst, rowNumbers, frontIs, foreign, arrivalRows, eventRows, shapeRows, knownRows, fragmentRows, decisionRows};
 use record::Counts;
 
-// Refusal 4: a number, and a fragment for an arrival or none of its words for a decision.
-pub(crate) fn is_formed_event(v: Event) -> bool
-    ensures { λ r. ⌜ r ≡ formedEvent v ⌝ }
+// Refusals 4 and 5 of an arrival's fragment, 0 for neither: one look where neither applies.
+pub(crate) fn arrival_row(count: u32, event: &[u32]) -> u32
+    ensures { λ r. ⌜ r ≡ firstOf (arrivalRows count (eventOf (now (event .entry)) .fragment)) ⌝ }
 {
-    if v.number < 1 {
-        return false;
+    if soundness::is_storable(event, 1, count) {
+        return 0;
     }
-    let f = v.fragment;
-    let kind = v.kind;
+    if soundness::is_formed_at(event, 1) {
+        return 5;
+    }
+    4
+}
+
+// Refusals 4 and 5 of an event's words, 0 for neither: 29 of them, a number, and a fragment for an arrival or none of its words for a decision.
+pub(crate) fn event_row(count: u32, event: &[u32]) -> u32
+    ensures { λ r. ⌜ r ≡ firstOf (eventRows count (eventOf (now (event .entry)))) ⌝ }
+{
+    if event.len() != model::EVENT_WORDS as usize {
+        return 4;
+    }
+    if event[1] < 1 {
+        return 4;
+    }
+    let kind = event[0];
     if kind == 1 {
-        return operations::is_formed(f);
+        return arrival_row(count, event);
     }
-    if kind == 2 {
-        return operations::is_blank(f);
+    if kind < 2 {
+        return 4;
     }
-    if kind == 3 {
-        return operations::is_blank(f);
+    if 3 < kind {
+        return 4;
     }
-    false
+    if soundness::is_blank_at(event, 1) {
+        return 0;
+    }
+    4
 }
 
 // Refusals 2 to 5, 0 for none of them: the room, the cells and the event as they are lent.
-pub(crate) fn shape_row(count: u32, cells: &[u32], room: &[u32], event: Event) -> u32
-    ensures { λ r. ⌜ r ≡ firstOf (shapeRows count event (now (cells .entry)) (now (room .entry))) ⌝ }
+pub(crate) fn shape_row(count: u32, cells: &[u32], room: &[u32], event: &[u32]) -> u32
+    ensures { λ r. ⌜ r ≡ firstOf (shapeRows count (eventOf (now (event .entry))) (now (cells .entry)) (now (room .entry))) ⌝ }
 {
     if room.len() < model::LEAST_ROOM {
         return 2;
@@ -47,17 +64,7 @@ pub(crate) fn shape_row(count: u32, cells: &[u32], room: &[u32], event: Event) -
     if cells.len() != count as usize {
         return 3;
     }
-    if !is_formed_event(event) {
-        return 4;
-    }
-    if event.kind == 1 {
-        let f = event.fragment;
-        if !operations::is_inside(count, f) {
-            return 5;
-        }
-        return 0;
-    }
-    0
+    event_row(count, event)
 }
 
 // "Live means accepted and not yet settled or aborted: uncommitted or waiting."
@@ -114,14 +121,16 @@ pub(crate) fn is_finished(word: u32) -> bool
 }
 
 // Refusal 9, of the front: "with another coordinator, or a single's".
-pub(crate) fn is_foreign(live: &[u32], f: Fragment) -> bool
-    ensures { λ r. ⌜ r ≡ foreign (now (live .entry)) f ⌝ }
+pub(crate) fn is_foreign(live: &[u32], event: &[u32]) -> bool
+    ensures { λ r. ⌜ r ≡ foreign (now (live .entry)) (eventOf (now (event .entry)) .fragment) ⌝ }
 {
-    if !operations::is_multi(f) {
+    let flags = operations::number_at(event, 2);
+    if flags % 2 != 1 {
         return true;
     }
     let own = operations::number_at(live, 2);
-    own != f.coordinator
+    let other = operations::number_at(event, 3);
+    own != other
 }
 
 // Refusal 10: "new number, 64 live".
@@ -142,9 +151,10 @@ pub(crate) fn fragment_row(
     front: bool,
     live: &[u32],
     runs: &[u32],
-    f: Fragment,
+    event: &[u32],
 ) -> u32
-    ensures { λ r. ⌜ r ≡ firstOf (fragmentRows (uncommitted + waiting) fresh front (now (live .entry)) (now (runs .entry)) f) ⌝ }
+    ensures { λ r. ⌜ r ≡ firstOf (fragmentRows (uncommitted + waiting) fresh front (now (live .entry)) (now (runs .entry))
+        (eventOf (now (event .entry)) .fragment)) ⌝ }
 {
     let full = is_full(fresh, uncommitted, waiting);
     if front {
@@ -152,7 +162,7 @@ pub(crate) fn fragment_row(
         if is_finished(state) {
             return 8;
         }
-        if is_foreign(live, f) {
+        if is_foreign(live, event) {
             return 9;
         }
         if full {
@@ -202,16 +212,17 @@ pub(crate) fn refused_row(
     undo: &[u32],
     cells: &[u32],
     room: &[u32],
-    event: Event,
+    event: &[u32],
 ) -> u32
     ensures { λ r. ⌜ ((σ : Scheme) → r ≡ firstOf (behindFirst (rows
-        (viewBy counts (now (live .entry)) (now (runs .entry)) (now (undo .entry))) (callOf σ event (now (cells .entry)) (now (room .entry)))))) ⌝ }
+        (viewBy counts (now (live .entry)) (now (runs .entry)) (now (undo .entry)))
+        (callOf σ (eventOf (now (event .entry))) (now (cells .entry)) (now (room .entry)))))) ⌝ }
 {
     let shape = shape_row(counts.cells, cells, room, event);
     if shape != 0 {
         return shape;
     }
-    let number = event.number;
+    let number = event[1];
     let fresh = counts.largest < number;
     let lives = is_live(live, counts.uncommitted, counts.waiting, number);
     let front = is_front(counts.uncommitted, live, number);
@@ -219,9 +230,8 @@ pub(crate) fn refused_row(
     if known != 0 {
         return known;
     }
-    let kind = event.kind;
+    let kind = event[0];
     if kind == 1 {
-        let f = event.fragment;
         return fragment_row(
             counts.uncommitted,
             counts.waiting,
@@ -229,7 +239,7 @@ pub(crate) fn refused_row(
             front,
             live,
             runs,
-            f,
+            event,
         );
     }
     decision_row(kind == 2, fresh, front, runs)
@@ -243,10 +253,10 @@ pub fn refused(
     undo: &[u32],
     cells: &[u32],
     room: &[u32],
-    event: Event,
+    event: &[u32],
 ) -> u32
     ensures { λ r. ⌜ ((σ : Scheme) → r ≡ refusal (viewBy counts (now (live .entry)) (now (runs .entry)) (now (undo .entry)))
-        (callOf σ event (now (cells .entry)) (now (room .entry)))) ⌝ }
+        (callOf σ (eventOf (now (event .entry))) (now (cells .entry)) (now (room .entry)))) ⌝ }
 {
     if soundness::is_sound(counts, live, runs, undo) {
         refused_row(counts, live, runs, undo, cells, room, event)

@@ -13,8 +13,7 @@ use Rattle.model.specs.Transactions.{Reply, Held, Sent, Uncommitted, Waiting, A
 use Rattle.model.specs.Refusals.{every}
 use Rattle.model.specs.Steps.{begun, oneCoordinator, nearest, nearestAttempt, Place, placed}
 use Rattle.model.specs.Steps as Steps
-use Rattle.operations.specs.Laid.{padded}
-use Rattle.record.specs.Words.{allRows, rowOf, liveRows}
+use Rattle.record.specs.Words.{allRows, rowOf, liveRows, over}
 use Rattle.record.specs.View.{waitingOf}
 use Rattle.record.proofs.Back.{waiting-back}
 use Rattle.rows.specs.declared.Trial.{Trial}
@@ -83,12 +82,12 @@ near-list d (u ∷ us) = go (λ x. near-list x us) (multi (u .first))
     go rest true = rest (trialOf (rowOf u))
     go rest false = rest d
 
-module _ (n : ℕ) (ws A : List Waiting) (us : List Uncommitted) (b : ℕ) (ea : All Eight A) (el : All Eight (liveRows us ws)) (eb : liveWidth * length A ≡ b) where
-  rows : waitingOf (padded n (allRows (A ++ liveRows us ws))) b (length us) ≡ map rowOf us
-  rows = ap (waitingOf (padded n (allRows (A ++ liveRows us ws))) b) (sym (length-map us rowOf)) ∙ waiting-back n A (map rowOf us) ws b ea (all-left Eight (map rowOf us) ws el) eb
+module _ (row : List ℕ) (ws A : List Waiting) (us : List Uncommitted) (b : ℕ) (ea : All Eight A) (el : All Eight (liveRows us ws)) (eb : liveWidth * length A ≡ b) where
+  rows : waitingOf (over row (allRows (A ++ liveRows us ws))) b (length us) ≡ map rowOf us
+  rows = ap (waitingOf (over row (allRows (A ++ liveRows us ws))) b) (sym (length-map us rowOf)) ∙ waiting-back row A (map rowOf us) ws b ea (all-left Eight (map rowOf us) ws el) eb
 
-  pub one-back : (k : ℕ) → oneRows (padded n (allRows (A ++ liveRows us ws))) b (length us) k ≡ oneCoordinator k us
-  one-back k = one-rows (padded n (allRows (A ++ liveRows us ws))) b (length us) k ∙ ap (every (sameOne k)) rows ∙ one-list k us
+  pub one-back : (k : ℕ) → oneRows (over row (allRows (A ++ liveRows us ws))) b (length us) k ≡ oneCoordinator k us
+  one-back k = one-rows (over row (allRows (A ++ liveRows us ws))) b (length us) k ∙ ap (every (sameOne k)) rows ∙ one-list k us
 
-  pub near-all : (d : Trial) → nearRows d (padded n (allRows (A ++ liveRows us ws))) b (length us) ≡ nearestTrial d us
-  near-all d = near-rows (padded n (allRows (A ++ liveRows us ws))) b (length us) d ∙ ap (foldl nearOne d) rows ∙ near-list d us
+  pub near-all : (d : Trial) → nearRows d (over row (allRows (A ++ liveRows us ws))) b (length us) ≡ nearestTrial d us
+  near-all d = near-rows (over row (allRows (A ++ liveRows us ws))) b (length us) d ∙ ap (foldl nearOne d) rows ∙ near-list d us

@@ -12,9 +12,8 @@ use Rattle.model.specs.Operations.{pick, multi}
 use Rattle.model.specs.Transactions.{Waiting}
 use Rattle.model.specs.Refusals.{every}
 use Rattle.record.specs.View.{fragmentAt, waitingOf, numbersFrom}
-use Rattle.operations.specs.Laid.{padded}
 use Rattle.model.specs.Parts.{All}
-use Rattle.record.specs.Words.{allRows}
+use Rattle.record.specs.Words.{allRows, over}
 use Rattle.record.specs.Fitting.{Eight}
 use Rattle.record.proofs.Back.{number-back, attempt-back}
 use Rattle.record.proofs.Rows.{numbers-whole}
@@ -69,8 +68,8 @@ abbrev pub trialOf : Waiting → Trial
 trialOf w = record { number = w .number; attempt = w .attempt }
 
 -- the transaction of a row, read back behind the rows of A and before those of B
-pub trial-back : (n : ℕ) (A : List Waiting) (t : Waiting) (B : List Waiting) (b : ℕ) → All Eight A → Eight t → liveWidth * length A ≡ b → trialAt (padded n (allRows (A ++ t ∷ B))) b ≡ trialOf t
-trial-back n A t B b ea et eb = λ i. record { number = number-back n A t B b ea et eb i; attempt = attempt-back n A t B b ea et eb i }
+pub trial-back : (row : List ℕ) (A : List Waiting) (t : Waiting) (B : List Waiting) (b : ℕ) → All Eight A → Eight t → liveWidth * length A ≡ b → trialAt (over row (allRows (A ++ t ∷ B))) b ≡ trialOf t
+trial-back row A t B b ea et eb = λ i. record { number = number-back row A t B b ea et eb i; attempt = attempt-back row A t B b ea et eb i }
 
 abbrev pub nearOne : Trial → Waiting → Trial
 nearOne d w = pick (multi (w .fragment)) (trialOf w) d

@@ -12,8 +12,10 @@ use Rattle.model.specs.Transactions.{State, Running, Finished, Failed, Reply, H
 use Rattle.model.specs.Steps.{stateAfter, begun}
 use Rattle.model.specs.Steps as Steps
 use Rattle.model.specs.declared.Fragment.{Fragment}
-use Rattle.operations.specs.Laid.{padded, flat, laid}
+use Rattle.operations.specs.Laid.{padded, flat, laid, told}
 use Rattle.operations.specs.declared.Ran.{Ran}
+use Rattle.operations.specs.declared.Told.{Told}
+use Rattle.operations.proofs.Turns.{told-of}
 use Rattle.record.specs.Words.{stateWord, runWords}
 use Rattle.rows.specs.declared.Trial.{Trial}
 use Rattle.rows.specs.Rows.{withAnswer, answerRow, runRow, stateWordAfter, begunRow}
@@ -70,12 +72,21 @@ room-more l a room₀ n e h =
     ∙ (λ i. take-at w rest (answerWords * n) lw i ++ words a ++ cut i)
     ∙ ap (λ (x : List ℕ). x ++ drop (length (allWords (l ++ (a ∷ [])))) room₀) (sym both)
 
--- a run's answer in the room
+-- the words of a run's answer, by what it tells
+pub told-words : (t d : Trial) (R : Steps.Ran) (r : Told) → r ≡ told R → length (R .outcome .numbers) ≤ 8
+    → answerRow t d (r .place) (r .count) (r .numbers) ≡ words (answer (t .number) (d .number) (t .attempt) (d .attempt) (R .outcome))
+unfolding told
+told-words t d R r er hr = (λ i. answerRow t d (er i .place) (er i .count) (er i .numbers)) ∙ answer-row t d (R .outcome) hr
+
+-- a run's answer in the room: by what it tells, and by all that it gives
+pub told-room : (l : List Answer) (t d : Trial) (R : Steps.Ran) (r : Told) (room room₀ : List ℕ) (a : ℕ) → r ≡ told R → length (R .outcome .numbers) ≤ 8 → room ≡ filled l room₀ → length l ≡ a → answerWords * (a + 1) ≤ length room₀
+    → sets room (answerWords * a) (answerRow t d (r .place) (r .count) (r .numbers)) ≡ filled (l ++ (answer (t .number) (d .number) (t .attempt) (d .attempt) (R .outcome) ∷ [])) room₀
+told-room l t d R r room room₀ a er hr em el h =
+    (λ i. sets (em i) (answerWords * a) (told-words t d R r er hr i)) ∙ room-more l (answer (t .number) (d .number) (t .attempt) (d .attempt) (R .outcome)) room₀ a el h
+
 pub answered-room : (l : List Answer) (t d : Trial) (R : Steps.Ran) (r : Ran) (room room₀ : List ℕ) (a : ℕ) → r ≡ laid R → length (R .outcome .numbers) ≤ 8 → room ≡ filled l room₀ → length l ≡ a → answerWords * (a + 1) ≤ length room₀
     → withAnswer a t d r room ≡ filled (l ++ (answer (t .number) (d .number) (t .attempt) (d .attempt) (R .outcome) ∷ [])) room₀
-unfolding laid
-answered-room l t d R r room room₀ a er hr em el h =
-    (λ i. sets (em i) (answerWords * a) (answerRow t d (er i .place) (er i .count) (er i .numbers))) ∙ ap (sets (filled l room₀) (answerWords * a)) (answer-row t d (R .outcome) hr) ∙ room-more l (answer (t .number) (d .number) (t .attempt) (d .attempt) (R .outcome)) room₀ a el h
+answered-room l t d R r room room₀ a er hr em el h = told-room l t d R _ room room₀ a (told-of R r er) hr em el h
 
 -- The run of one that ran
 

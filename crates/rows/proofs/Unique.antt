@@ -19,6 +19,10 @@ use Rattle.rows.proofs.raise_attempts.Kinds as raise-attempts-kinds
 use Rattle.rows.proofs.raise_attempts.Reads as raise-attempts
 use Rattle.rows.proofs.place_ran.Kinds as place-ran-kinds
 use Rattle.rows.proofs.place_ran.Reads as place-ran
+use Rattle.rows.proofs.run_alone.Kinds as run-alone-kinds
+use Rattle.rows.proofs.run_alone.Reads as run-alone
+use Rattle.rows.proofs.put_told.Kinds as put-told-kinds
+use Rattle.rows.proofs.put_told.Reads as put-told
 use Rattle.rows.proofs.put_answer.Kinds as put-answer-kinds
 use Rattle.rows.proofs.put_answer.Reads as put-answer
 use Rattle.rows.proofs.put_answer_if.Kinds as put-answer-if-kinds
@@ -63,6 +67,11 @@ raise-attempts-unique κs a z z′ ws ws′ p q =
 pub place-ran-unique : Unique place-ran-kinds.ps place-ran-kinds.r place-ran.Learnt
 place-ran-unique κs a z z′ ws ws′ p q = (cc, refl)
 
+pub put-told-unique : Unique put-told-kinds.ps put-told-kinds.r put-told.Learnt
+put-told-unique κs a z z′ ws ws′ p q =
+    let b : ws .0 ≡ ws′ .0 = cc in
+    (refl, λ j. (b j, ws .1))
+
 pub put-answer-unique : Unique put-answer-kinds.ps put-answer-kinds.r put-answer.Learnt
 put-answer-unique κs a z z′ ws ws′ p q =
     let b : ws .0 ≡ ws′ .0 = cc in
@@ -97,3 +106,9 @@ pub put-entries-unique : Unique put-entries-kinds.ps put-entries-kinds.r put-ent
 put-entries-unique κs a z z′ ws ws′ p q =
     let b : ws .0 ≡ ws′ .0 = cc in
     (refl, λ j. (b j, ws .1))
+
+pub run-alone-unique : Unique run-alone-kinds.ps run-alone-kinds.r run-alone.Learnt
+run-alone-unique κs a z z′ ws ws′ p q =
+    let b : ws .0 ≡ ws′ .0 = cc in
+    let c : ws .1 .1 .1 .0 ≡ ws′ .1 .1 .1 .0 = cc in
+    (refl, λ j. (b j, (ws .1 .0, (ws .1 .1 .0, (c j, ws .1 .1 .1 .1)))))

@@ -11,6 +11,7 @@ use Rattle.model.specs.Refusals.{every}
 use Rattle.model.specs.declared.Scheme.{Scheme}
 use Rattle.model.specs.declared.Scheme.the-variants.{Speculation, Blocking}
 use Rattle.operations.specs.declared.Ran.{Ran}
+use Rattle.operations.specs.declared.Told.{Told}
 use Rattle.model.specs.declared.Fragment.{Fragment}
 use Rattle.rows.specs.declared.Trial.{Trial}
 use Rattle.rows.specs.declared.Placement.{Placement}
@@ -29,6 +30,13 @@ noTrial = record { number = 0; attempt = 0 }
 -- the words of an answer of t with a dependence on d, and of a run, with the eight numbers as a row
 abbrev pub answerRow : Trial → Trial → ℕ → ℕ → List ℕ → List ℕ
 answerRow t d p c ns = t .number ∷ d .number ∷ p ∷ c ∷ ns ++ (t .attempt ∷ d .attempt ∷ 0 ∷ 0 ∷ [])
+
+-- the same by what a run tells; and one in its first attempt, whose row starts at b
+abbrev pub toldRow : Trial → Trial → Told → List ℕ
+toldRow t d r = answerRow t d (r .place) (r .count) (r .numbers)
+
+abbrev pub firstTrial : List ℕ → ℕ → Trial
+firstTrial l b = record { number = getD l b 0; attempt = 1 }
 
 abbrev pub runRow : ℕ → ℕ → ℕ → ℕ → ℕ → ℕ → List ℕ → List ℕ
 runRow r s a e p c ns = r ∷ s ∷ a ∷ e ∷ p ∷ c ∷ ns ++ (0 ∷ 0 ∷ [])
@@ -94,9 +102,11 @@ raisedRow l b = set l (b + 28) (capped (attemptAt l b + 1))
 unfoldable pub raisedRows : List ℕ → ℕ → ℕ → List ℕ
 raisedRows l b n = foldl raisedRow l (places b liveWidth n)
 
--- where the drain places fragment f behind n uncommitted ones, whose rows start at b
+-- where the drain places fragment f behind n uncommitted ones, whose rows start at b: what is held names no dependence yet
 abbrev pub placementRow : List ℕ → ℕ → ℕ → Fragment → Placement
-placementRow l b n f = record { sent = answeredNow n (multi f) (oneRows l b n (f .coordinator)); joins = joinsQueue n (multi f); near = nearRows noTrial l b n }
+placementRow l b n f =
+    let sent = answeredNow n (multi f) (oneRows l b n (f .coordinator)) in
+    record { sent = sent; joins = joinsQueue n (multi f); near = pick sent (nearRows noTrial l b n) noTrial }
 
 -- the front's run after one more fragment
 abbrev pub againRow : List ℕ → Fragment → ℕ → ℕ → List ℕ

@@ -2,13 +2,17 @@
 ghost use mathlib.Core.Path.{_≡_};
 ghost use Prim.Native.Nat.{_*_, _≤_, min};
 ghost use Rattle.record.specs.Widths.{runWidth};
-ghost use Rattle.record.specs.View.{numbersFrom};
-ghost use Rattle.rows.specs.Rows.{placementRow, raisedRow, raisedRows, trialAt, noTrial, answerRow, runRow, stateWordAfter, begunRow, sameRow, nearRow, oneRows, nearRows, answeredNow, joinsQueue, blocking, mayTakeRow, holdsRow, heldRow, sentRow, againRow, multiRow};
+ghost use mathlib.Core.List.{[]};
+ghost use Rattle.model.specs.Steps.{run};
+ghost use Rattle.operations.specs.Laid.{told};
+ghost use Rattle.record.specs.View.{fragmentAt, numbersFrom};
+ghost use Rattle.rows.specs.Rows.{placementRow, raisedRow, raisedRows, trialAt, firstTrial, noTrial, answerRow, toldRow, runRow, stateWordAfter, begunRow, sameRow, nearRow, oneRows, nearRows, answeredNow, joinsQueue, blocking, mayTakeRow, holdsRow, heldRow, sentRow, againRow, multiRow};
 ghost use lib.Seq.{sets};
-ghost use Rattle.model.specs.Operations.{pick};
+ghost use Rattle.model.specs.Operations.{multi, pick};
 use model::Fragment;
 use model::Scheme;
 use operations::Ran;
+use operations::Told;
 
 // The words of an answer, as a number of a place in the room.
 pub const ANSWER_WIDTH: u32 = 16;
@@ -239,15 +243,18 @@ pub fn raise_attempts(live: &mut [u32], b: u32, n: u32)
     }
 }
 
-// Is the one that ran answered now: with nothing uncommitted, or a multi with one coordinator.
-pub(crate) fn is_answered(uncommitted: u32, multi: bool, one: bool) -> bool
-    ensures { λ r. ⌜ r ≡ answeredNow uncommitted multi one ⌝ }
+// Is fragment f's transaction answered now, behind n uncommitted ones: with nothing uncommitted, or a multi with one coordinator. No row is read for
+// a single.
+pub(crate) fn is_answered(live: &[u32], b: u32, n: u32, f: Fragment) -> bool
+    ensures { λ r. ⌜ r ≡ answeredNow n (multi f) (oneRows (now (live .entry)) b n (f .coordinator)) ⌝ }
 {
-    if uncommitted == 0 {
-        true
-    } else {
-        if multi { one } else { false }
+    if n == 0 {
+        return true;
     }
+    if operations::is_multi(f) {
+        return one_coordinator(live, b, n, f.coordinator);
+    }
+    false
 }
 
 // Does it join the uncommitted ones: all but a single with nothing uncommitted.
@@ -257,7 +264,8 @@ pub(crate) fn is_joining(uncommitted: u32, multi: bool) -> bool
     if uncommitted == 0 { multi } else { true }
 }
 
-// Where the drain places one that ran: is it answered now, does it join the uncommitted ones, and the nearest multi ahead of it.
+// Where the drain places one that ran: is it answered now, does it join the uncommitted ones, and the multi that its answer depends on, none where it is
+// held.
 pub struct Placement {
     pub sent: bool,
     pub joins: bool,
@@ -269,11 +277,18 @@ pub fn place_ran(live: &[u32], b: u32, n: u32, f: Fragment) -> Placement
     ensures { λ p. ⌜ p ≡ placementRow (now (live .entry)) b n f ⌝ }
 {
     let multi = operations::is_multi(f);
-    let one = one_coordinator(live, b, n, f.coordinator);
+    let joins = is_joining(n, multi);
+    if !is_answered(live, b, n, f) {
+        return Placement {
+            sent: false,
+            joins: joins,
+            near: no_trial(),
+        };
+    }
     let near = nearest_multi(live, b, n);
     Placement {
-        sent: is_answered(n, multi, one),
-        joins: is_joining(n, multi),
+        sent: true,
+        joins: joins,
         near: near,
     }
 }
@@ -326,6 +341,15 @@ pub(crate) fn held_row(runs: &[u32], i: u32, own: Trial, near: Trial) -> [u32; m
     answer_row(own, near, place, count, [n0, n1, n2, n3, n4, n5, n6, n7])
 }
 
+// Lays the answer of what a run tells into the room, from a place on.
+pub fn put_told(room: &mut [u32], at: u32, own: Trial, near: Trial, t: Told)
+    ensures { λ _. ⌜ now (room .exit) ≡ sets (now (room .entry)) at (toldRow own near t) ⌝ }
+{
+    let numbers = t.numbers;
+    let w = answer_row(own, near, t.place, t.count, numbers);
+    record::lay(room, at, &w, ANSWER_WIDTH);
+}
+
 // Lays an answer of a run into the room, from a place on.
 pub fn put_answer(room: &mut [u32], at: u32, own: Trial, near: Trial, r: Ran)
     ensures { λ _. ⌜ now (room .exit) ≡ sets (now (room .entry)) at (answerRow own near (r .place) (r .count) (r .numbers)) ⌝ }
@@ -333,6 +357,23 @@ pub fn put_answer(room: &mut [u32], at: u32, own: Trial, near: Trial, r: Ran)
     let numbers = r.numbers;
     let w = answer_row(own, near, r.place, r.count, numbers);
     record::lay(room, at, &w, ANSWER_WIDTH);
+}
+
+// A single that nothing is ahead of, its row's words from place b on: it runs where they stand, and is answered at the room's start, in its
+// first attempt. Nobody keeps its entries.
+pub fn run_alone(cells: &mut [u32], words: &[u32], b: u32, room: &mut [u32])
+    ensures { λ _. ⌜ now (cells .exit) ≡ run (fragmentAt (now (words .entry)) b) (now (cells .entry)) [] .cells ⌝ }
+    ensures { λ _. ⌜ now (room .exit) ≡ sets (now (room .entry)) 0
+        (toldRow (firstTrial (now (words .entry)) b) noTrial (told (run (fragmentAt (now (words .entry)) b) (now (cells .entry)) []))) ⌝ }
+{
+    let number = operations::number_at(words, b as usize);
+    let t = operations::run_words(cells, words, b);
+    let own = Trial {
+        number: number,
+        attempt: 1,
+    };
+    let none = no_trial();
+    put_told(room, 0, own, none, t);
 }
 
 // The same if it is sent now.

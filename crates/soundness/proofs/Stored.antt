@@ -1,5 +1,5 @@
 -- A stored fragment asked where its words stand: its operations by threes, its unused places as words.
-use Prim.Native.Nat.{ℕ, zero, suc, _+_, _*_, _-_, _≤_, _<_, max}
+use Prim.Native.Nat.{ℕ, zero, suc, _+_, _*_, _-_, _≤_, _<_}
 use native.Mathlib.Omega.{arith}
 use native.Mathlib.Nat.{add-assoc}
 use mathlib.Core.Path.{_≡_, refl, sym, ap, _∙_}
@@ -7,18 +7,19 @@ use mathlib.Core.Bool.{Bool, true, false, _&&_, true≢false}
 use mathlib.Core.List.{List, [], _∷_, _++_, map}
 use borrow.Author.Tests.{eq-eqb, ne-eqb, eqb-true, lt-leb}
 use lib.Dec.{leb, ltb, eqb}
+use lib.Bits.{bitAnd, bitOr, or-add-and, and-le-l, and-le-r}
 use lib.ListN.{length, getD, take, drop}
 use lib.Seq.{take-at, drop-at}
 use Rattle.model.specs.Limits.{mostOperations}
 use Rattle.model.specs.Operations.{operations, multi, last}
-use Rattle.model.specs.Refusals.{every, formedOp, blankOp, formedKind, formed, inside, storable}
+use Rattle.model.specs.Refusals.{every, formedOp, blankOp, formedKind, formed, blank, inside, storable}
 use Rattle.model.specs.declared.Op.{Op}
 use Rattle.record.specs.View.{opAt, fragmentAt, numbersFrom}
 use Rattle.record.proofs.Rows.{numbers-snoc}
 use Rattle.record.proofs.Walks.{read-length, read-add, walk-on, walk-end}
 use Rattle.soundness.specs.Groups.{isZero, opsFrom, storableOp, kindOk}
 use Rattle.soundness.proofs.Turns.{on, off}
-use Rattle.record.specs.Widths.{opWidth, opsWidth, liveWidth}
+use Rattle.record.specs.Widths.{opWidth, opsWidth, opsEnd}
 
 -- the eight operations of a fragment, by threes
 row-ops : (l : List ℕ) (at : ℕ) → fragmentAt l at .row ≡ opsFrom l (at + 4) 8
@@ -57,6 +58,19 @@ blank-words l b (suc n) =
     three (isZero (getD l b 0)) (isZero (getD l (b + 1) 0)) (isZero (getD l (b + 2) 0)) (every blankOp (opsFrom l (b + opWidth) n))
     ∙ (λ i. isZero (getD l b 0) && (isZero (getD l (b + 1) 0) && (isZero (getD l (sym p i) 0) && (blank-words l (b + opWidth) n ∙ ap (λ (x : ℕ). every isZero (numbersFrom l x (opWidth * n))) q) i)))
     ∙ ap (λ (x : ℕ). every isZero (numbersFrom l b x)) e
+
+-- the words of a fragment that is blank, behind its number: `stop - from` of them
+pub blank-is : (l : List ℕ) (at from stop : ℕ) → from ≡ at + 1 → stop ≡ at + opsEnd → every isZero (numbersFrom l from (stop - from)) ≡ blank (fragmentAt l at)
+unfolding blank fragmentAt numbersFrom
+blank-is l at from stop ef es =
+    let n : stop - from ≡ suc (suc (suc opsWidth)) = omega arith in
+    let p : from + 1 ≡ at + 2 = omega arith in
+    let q : from + 1 + 1 ≡ at + 3 = omega arith in
+    let r : from + 1 + 1 + 1 ≡ at + 4 = omega arith in
+    ap (λ (x : ℕ). every isZero (numbersFrom l from x)) n
+    ∙ (λ i. isZero (getD l (ef i) 0) && (isZero (getD l (p i) 0) && (isZero (getD l (q i) 0) && every isZero (numbersFrom l (r i) opsWidth))))
+    ∙ (λ i. isZero (getD l (at + 1) 0) && (isZero (getD l (at + 2) 0) && (isZero (getD l (at + 3) 0) && (sym (blank-words l (at + 4) 8) ∙ ap (every blankOp) (sym (row-ops l at))) i)))
+    ∙ sym (three (isZero (getD l (at + 1) 0)) (isZero (getD l (at + 2) 0)) (isZero (getD l (at + 3) 0)) (every blankOp (fragmentAt l at .row)))
 
 four : (a c r s : Bool) → ((a && c) && (r && s)) ≡ ((a && r) && (c && s))
 four true true r s = refl
@@ -149,17 +163,21 @@ every-snoc (x ∷ l) w = ap (λ (y : Bool). isZero x && y) (every-snoc l w) ∙ 
 clash : {n : ℕ} → eqb n 0 ≡ false → n ≡ 0 → ⊥
 clash {n} f z = true≢false (sym (eq-eqb n 0 z) ∙ f)
 
-zero-max : (a w : ℕ) → isZero (max a w) ≡ (isZero w && isZero a)
-zero-max a w = go (eqb w 0) (eqb a 0) refl refl
+-- the bits of two numbers together are 0 where both are
+pub zero-or : (a w : ℕ) → isZero (bitOr a w) ≡ (isZero w && isZero a)
+zero-or a w = go (isZero w) (isZero a) refl refl
   where
-    go : (p q : Bool) → eqb w 0 ≡ p → eqb a 0 ≡ q → isZero (max a w) ≡ (p && q)
-    go true true e f = let x : w ≡ 0 = eqb-true w 0 e in let y : a ≡ 0 = eqb-true a 0 f in eq-eqb (max a w) 0 (omega arith)
-    go true false e f = ne-eqb (max a w) 0 (λ z. clash f (let y : a ≡ 0 = omega arith in y))
-    go false q e f = ne-eqb (max a w) 0 (λ z. clash e (let y : w ≡ 0 = omega arith in y))
+    sum : bitOr a w + bitAnd a w ≡ a + w
+    sum = or-add-and a w
 
-pub zeros-turn : (l : List ℕ) (from i most w : ℕ) → from ≤ i → w ≡ getD l i 0 → isZero most ≡ every isZero (numbersFrom l from (i - from)) → isZero (max most w) ≡ every isZero (numbersFrom l from (i + 1 - from))
-zeros-turn l from i most w h ew inv =
+    go : (p q : Bool) → isZero w ≡ p → isZero a ≡ q → isZero (bitOr a w) ≡ (p && q)
+    go true true e f = eq-eqb (bitOr a w) 0 (omega (arith, sum, eqb-true w 0 e, eqb-true a 0 f))
+    go true false e f = ne-eqb (bitOr a w) 0 (λ z. clash f (let y : a ≡ 0 = omega (arith, sum, and-le-r a w, eqb-true w 0 e) in y))
+    go false q e f = ne-eqb (bitOr a w) 0 (λ z. clash e (let y : w ≡ 0 = omega (arith, sum, and-le-l a w) in y))
+
+pub zeros-turn : (l : List ℕ) (from i most w most′ : ℕ) → from ≤ i → w ≡ getD l i 0 → isZero most ≡ every isZero (numbersFrom l from (i - from)) → isZero most′ ≡ (isZero w && isZero most) → isZero most′ ≡ every isZero (numbersFrom l from (i + 1 - from))
+zeros-turn l from i most w most′ h ew inv em =
     let e : suc (i - from) ≡ i + 1 - from = omega arith in
     let p : i ≡ from + (i - from) = omega arith in
-    zero-max most w ∙ (λ j. isZero ((ew ∙ ap (λ (x : ℕ). getD l x 0) p) j) && inv j) ∙ sym (every-snoc (numbersFrom l from (i - from)) (getD l (from + (i - from)) 0))
+    em ∙ (λ j. isZero ((ew ∙ ap (λ (x : ℕ). getD l x 0) p) j) && inv j) ∙ sym (every-snoc (numbersFrom l from (i - from)) (getD l (from + (i - from)) 0))
     ∙ ap (every isZero) (sym (numbers-snoc l from (i - from))) ∙ ap (λ (x : ℕ). every isZero (numbersFrom l from x)) e

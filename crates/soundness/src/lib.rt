@@ -1,21 +1,22 @@
 // Refusal 1 of document 01: whether a record of any words is sound. Each walk over a row of words asks what it can of one row at a time; every
-// function is total, and a read past a row's end gives 0.
-ghost use Rattle.record.specs.Widths.{liveWidth};
+// function is total, and a read past a row's end gives 0. A stored fragment is asked as 4 and 5 ask an event's, so what asks them is public.
+ghost use Rattle.record.specs.Widths.{opsEnd};
 ghost use mathlib.Core.Path.{_≡_};
-ghost use Prim.Native.Nat.{_+_, _*_, _-_, _≤_, max};
+ghost use mathlib.Core.Bool.{_&&_};
+ghost use Prim.Native.Nat.{_+_, _*_, _-_, _≤_};
 ghost use lib.ListN.{length};
-ghost use Rattle.model.specs.Refusals.{every, storable, sound};
+ghost use Rattle.model.specs.Refusals.{every, formed, blank, storable, sound};
 ghost use Rattle.record.specs.View.{fragmentAt, numbersFrom, viewBy};
 ghost use Rattle.soundness.specs.Groups.{isZero, opsFrom, storableOp, kindOk, rowOk, liveFrom, replyOk, runOk, frontOk, nextOk, behindFrom, membersOk, totalFrom, undoOk};
-
-pub(crate) fn larger(a: u32, b: u32) -> u32
-    ensures { λ r. ⌜ r ≡ max a b ⌝ }
-{
-    if a < b { b } else { a }
-}
-
 use model::Op;
 use record::Counts;
+
+// The bits of two numbers together: 0 where both are.
+pub(crate) fn either(a: u32, b: u32) -> u32
+    ensures { λ r. ⌜ isZero r ≡ (isZero b && isZero a) ⌝ }
+{
+    a | b
+}
 
 // "unused place not zero": are the words of a row from `from` to before `to` all 0. The loop has no way out before its end, so that it can
 // take several words at once.
@@ -23,14 +24,14 @@ pub(crate) fn all_zero(row: &[u32], from: usize, to: usize) -> bool
     requires { ⌜ (from ≤ to) × (to ≤ length (now row)) ⌝ }
     ensures { λ r. ⌜ r ≡ every isZero (numbersFrom (now (row .entry)) from (to - from)) ⌝ }
 {
-    let mut most: u32 = 0;
+    let mut all: u32 = 0;
     let mut i = from;
     while i < to {
         let w = row[i];
-        most = larger(most, w);
+        all = either(all, w);
         i = i + 1;
     }
-    most == 0
+    all == 0
 }
 
 // An operation that 4 and 5 would not refuse.
@@ -87,7 +88,7 @@ pub(crate) fn kind_ok(flags: u32, coordinator: u32) -> bool
 
 // "a stored fragment that 4 or 5 would refuse", all its words there: asked where they stand, with no fragment made of them.
 pub(crate) fn storable_in(live: &[u32], at: usize, cells: u32) -> bool
-    requires { ⌜ at + liveWidth ≤ length (now live) ⌝ }
+    requires { ⌜ at + opsEnd ≤ length (now live) ⌝ }
     ensures { λ r. ⌜ r ≡ storable cells (fragmentAt (now (live .entry)) at) ⌝ }
 {
     let count = live[at + 3];
@@ -112,19 +113,37 @@ pub(crate) fn storable_in(live: &[u32], at: usize, cells: u32) -> bool
     kind_ok(flags, coordinator)
 }
 
-// The same of words that may stand past the row's end.
-pub(crate) fn is_storable(live: &[u32], b: u32, cells: u32) -> bool
-    ensures { λ r. ⌜ r ≡ storable cells (fragmentAt (now (live .entry)) b) ⌝ }
+// The same of words that may stand past the row's end, which are asked in a copy: with a fragment made of them the compiler would keep the slice
+// in memory on every way.
+pub fn is_storable(row: &[u32], b: u32, cells: u32) -> bool
+    ensures { λ r. ⌜ r ≡ storable cells (fragmentAt (now (row .entry)) b) ⌝ }
 {
     let at = b as usize;
-    if at + record::LIVE_WORDS <= live.len() {
-        return storable_in(live, at, cells);
+    if at + record::OPS_END <= row.len() {
+        return storable_in(row, at, cells);
     }
-    let f = record::fragment_at(live, b);
-    if !operations::is_formed(f) {
-        return false;
+    let words = record::words_from(row, at);
+    storable_in(&words, 0, cells)
+}
+
+// "not well formed": not the fragment whose row starts at b. This is asked only of what is not storable, so here a fragment is made.
+pub fn is_formed_at(row: &[u32], b: u32) -> bool
+    ensures { λ r. ⌜ r ≡ formed (fragmentAt (now (row .entry)) b) ⌝ }
+{
+    let f = record::fragment_at(row, b);
+    operations::is_formed(f)
+}
+
+// "a decision with more than its number": not the one whose number stands at b.
+pub fn is_blank_at(row: &[u32], b: u32) -> bool
+    ensures { λ r. ⌜ r ≡ blank (fragmentAt (now (row .entry)) b) ⌝ }
+{
+    let at = b as usize;
+    if at + record::OPS_END <= row.len() {
+        return all_zero(row, at + 1, at + record::OPS_END);
     }
-    operations::is_inside(cells, f)
+    let words = record::words_from(row, at);
+    all_zero(&words, 1, record::OPS_END)
 }
 
 // "live numbers 0, not rising", "a stored fragment that 4 or 5 would refuse", and "an attempt is at least 1, and attempt plus transactions ahead at

@@ -2,12 +2,12 @@
 use Prim.Native.Nat.{ℕ, zero, suc, _+_, _*_, _-_, min, _≤_, _<_}
 use native.Mathlib.Omega.{arith}
 use native.Mathlib.Nat.{add-assoc}
-use borrow.Author.Tests.{leb-true, eqb-true}
+use borrow.Author.Tests.{leb-true, le-leb, eqb-true}
 use mathlib.Core.Path.{_≡_, refl, sym, ap, _∙_}
-use mathlib.Core.Bool.{Bool, true, false, true≢false}
+use mathlib.Core.Bool.{Bool, true, false, _&&_, true≢false}
 use mathlib.Core.List.{List, [], _∷_, _++_, append-assoc}
 use lib.Dec.{eqb, leb}
-use lib.ListN.{length, getD, set, take, replicate, length-set, replicate-append-replicate}
+use lib.ListN.{length, getD, set, take, replicate, length-replicate, length-set, replicate-append-replicate}
 use lib.Seq.{sets, length-sets, getD-set-same, ext-getD, getD-take, length-take-le}
 use Rattle.model.specs.Operations.{Outcome, pick}
 use Rattle.model.specs.Transactions.{Running, Finished, Failed, NoState, Reply, Held, Sent, NoReply, Uncommitted, Waiting, undoList}
@@ -15,11 +15,12 @@ use Rattle.model.specs.Refusals.{isState, isReply, fits, sound}
 use Rattle.model.proofs.Tests.{and-left, and-right}
 use Rattle.model.proofs.Sound.{sound-parts, entries-most}
 use Rattle.operations.specs.Laid.{padded, flat, entriesOf}
-use Rattle.record.specs.Words.{rowWords, allRows, stateWord, replyWord, heldOutcome, outcomeWords, runWords, allRuns, liveRows}
+use Rattle.record.specs.Words.{rowWords, allRows, stateWord, replyWord, heldOutcome, outcomeWords, runWords, allRuns, liveRows, over, cleared}
 use Rattle.record.specs.View.{fragmentAt, attemptAt, waitingOf, numbersFrom, zeros, stateOf, replyOf, memberAt, uncommittedOf, viewOf}
-use Rattle.record.proofs.Rows.{length-numbers, numbers-add, numbers-same, getD-numbers, getD-sets-before, getD-sets-after, getD-padded}
+use Rattle.record.proofs.Rows.{length-numbers, numbers-add, numbers-same, getD-numbers, getD-sets-before, getD-sets-after, getD-padded, getD-behind, over-of, over-own, over-twice, length-cleared}
+use Rattle.record.proofs.Back.{length-flat}
 use Rattle.record.proofs.Queues.{length-waiting, length-entries, length-uncommitted, rows-live, entries-all}
-use Rattle.tidy.specs.Runs.{used, tidyRun, tidyRuns, entriesFrom}
+use Rattle.tidy.specs.Runs.{used, tidyRun, tidyRuns, entriesFrom, fewRuns}
 use Rattle.tidy.specs.Tidied.{Canonical}
 use Rattle.tidy.proofs.Loops.{used-sent, used-held, used-most}
 use Rattle.model.specs.Parts.{All, SoundOne, Sound}
@@ -194,6 +195,11 @@ unfolding tidyRuns
 runs-before row c zero x h = refl
 runs-before row c (suc n) x h = runs-before (tidyRun row c) (c + runWidth) n x (omega arith) ∙ run-before row c x h
 
+runs-after : (row : List ℕ) (c n x : ℕ) → c + runWidth * n ≤ x → getD (tidyRuns row c n) x 0 ≡ getD row x 0
+unfolding tidyRuns
+runs-after row c zero x h = refl
+runs-after row c (suc n) x h = runs-after (tidyRun row c) (c + runWidth) n x (omega arith) ∙ run-after row c x (omega arith)
+
 runs-length : (row : List ℕ) (c n : ℕ) → length (tidyRuns row c n) ≡ length row
 unfolding tidyRuns
 runs-length row c zero = refl
@@ -254,6 +260,9 @@ module _ (count largest u w : ℕ) (live runs undo : List ℕ) where
     pub few-entries : entriesFrom runs 0 u ≤ 184
     few-entries = omega (arith, entries-are, entries-most count us (parts .sixteen) (parts .each) (parts .ones))
 
+    pub few-runs : fewRuns runs u ≡ true
+    few-runs = λ j. le-leb u 16 few-uncommitted j && le-leb (entriesFrom runs 0 u) 184 few-entries j
+
     live-rows : liveWidth * (u + w) ≤ length live → take (liveWidth * (u + w)) live ≡ allRows (liveRows us ws)
     live-rows h =
         numbers-take live (liveWidth * (u + w)) h ∙ sym (ap allRows (rows-live live runs undo 0 0 0 u (liveWidth * u) w (omega arith)) ∙ rows-at live 0 (u + w))
@@ -265,11 +274,40 @@ module _ (count largest u w : ℕ) (live runs undo : List ℕ) where
     undo-rows h = numbers-take undo (2 * entriesFrom runs 0 u) h ∙ sym (flat-at undo 0 (entriesFrom runs 0 u)) ∙ ap flat (sym (entries-all live runs undo 0 0 0 u))
 
     module _ (hl : length live ≡ liveLength) (hr : length runs ≡ runsLength) (hu : length undo ≡ undoLength) where
-      pub canonical : (n : ℕ) (runs₁ live′ runs′ undo′ : List ℕ) → n ≡ entriesFrom runs 0 u → runs₁ ≡ tidyRuns runs 0 u → live′ ≡ padded (length live) (take (liveWidth * (u + w)) live)
-          → runs′ ≡ padded (length runs₁) (take (runWidth * u) runs₁) → undo′ ≡ padded (length undo) (take (2 * n) undo) → Canonical us ws n live′ runs′ undo′
-      canonical n runs₁ live′ runs′ undo′ en e₁ el er eu = record {
-        entries = en ∙ entries-are;
-        live = el ∙ (λ j. padded (hl j) (live-rows (omega (arith, few-live)) j));
-        runs = er ∙ ap (λ (x : List ℕ). padded (length x) (take (runWidth * u) x)) e₁ ∙ (λ j. padded ((runs-length runs 0 u ∙ hr) j) (run-rows (omega (arith, few-uncommitted)) j));
-        undo = eu ∙ ap (λ (x : ℕ). padded (length undo) (take (2 * x) undo)) en ∙ (λ j. padded (hu j) (undo-rows (omega (arith, few-entries)) j));
+      n-runs : runWidth * u ≤ length runs
+      n-runs = omega (arith, few-uncommitted)
+
+      pub canonical : (n : ℕ) (r : List ℕ) → n ≡ pick (fewRuns runs u) (entriesFrom runs 0 u) 0 → r ≡ pick (fewRuns runs u) (tidyRuns runs 0 u) runs → Canonical us ws live runs undo n r
+      canonical n r en er = record {
+        at-live = over-own live (liveWidth * (u + w)) (omega (arith, few-live)) ∙ ap (over live) (live-rows (omega (arith, few-live)));
+        at-runs = er ∙ ap (λ (b : Bool). pick b (tidyRuns runs 0 u) runs) few-runs
+            ∙ over-of (tidyRuns runs 0 u) (cleared (runWidth * length us) runs) (allRuns us) (runs-length runs 0 u ∙ sym lc) (omega (arith, lr, lc, n-runs))
+            (λ x hx. sym (getD-take (runWidth * u) (tidyRuns runs 0 u) x 0 (omega (arith, lr))) ∙ ap (λ (l : List ℕ). getD l x 0) (run-rows n-runs))
+            (λ x hx. runs-after runs 0 u x (omega (arith, lr)) ∙ sym (getD-behind runs (zeros (runWidth * length us)) x (omega (arith, lr, lu, lz))));
+        at-undo = over-own undo (2 * entriesFrom runs 0 u) two ∙ ap (over undo) (undo-rows two) ∙ sym (over-twice undo (zeros (2 * n)) (flat (undoList us)) (omega (arith, ly, lf, is, entries-are)) (omega (arith, lf, entries-are, few-entries)));
+        entries = sym entries-are ∙ sym is;
       }
+        where
+          is : n ≡ entriesFrom runs 0 u
+          is = en ∙ ap (λ (b : Bool). pick b (entriesFrom runs 0 u) 0) few-runs
+
+          two : 2 * entriesFrom runs 0 u ≤ length undo
+          two = omega (arith, few-entries)
+
+          lu : length us ≡ u
+          lu = length-uncommitted live runs undo 0 0 0 u
+
+          lf : length (flat (undoList us)) ≡ 2 * length (undoList us)
+          lf = length-flat (undoList us)
+
+          lr : length (allRuns us) ≡ runWidth * u
+          lr = ap length (sym (run-rows n-runs)) ∙ length-take-le (runWidth * u) (tidyRuns runs 0 u) (omega (arith, runs-length runs 0 u, n-runs))
+
+          lz : length (zeros (runWidth * length us)) ≡ runWidth * length us
+          lz = length-replicate (runWidth * length us) 0
+
+          ly : length (zeros (2 * n)) ≡ 2 * n
+          ly = length-replicate (2 * n) 0
+
+          lc : length (cleared (runWidth * length us) runs) ≡ length runs
+          lc = length-cleared (runWidth * length us) runs (omega (arith, n-runs, lu))

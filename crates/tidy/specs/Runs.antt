@@ -1,9 +1,11 @@
 -- What tidying makes of the runs, step by step: a run's words in use stay, the rest of its sixteen become zero.
 use Prim.Native.Nat.{ℕ, _+_, _-_, min}
+use mathlib.Core.Bool.{Bool, _&&_}
 use mathlib.Core.List.{List, foldl}
-use lib.Dec.{eqb}
+use lib.Dec.{eqb, leb}
 use lib.ListN.{getD, replicate}
 use lib.Seq.{sets}
+use Rattle.model.specs.Limits.{depth, mostEntries}
 use Rattle.model.specs.Operations.{pick}
 use Rattle.record.specs.Walk.{places}
 use Rattle.record.specs.View.{numbersFrom}
@@ -21,3 +23,7 @@ tidyRun runs c = sets runs (c + used runs c) (numbersFrom (replicate runWidth 0)
 -- with n runs tidied, the first of which starts at c
 unfoldable pub tidyRuns : List ℕ → ℕ → ℕ → List ℕ
 tidyRuns runs c n = foldl tidyRun runs (places c runWidth n)
+
+-- n runs and their entries are within the limits
+abbrev pub fewRuns : List ℕ → ℕ → Bool
+fewRuns runs n = leb n depth && leb (entriesFrom runs 0 n) mostEntries

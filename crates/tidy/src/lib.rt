@@ -1,10 +1,9 @@
-// Leaves the rows of a sound record, with anything in their unused places, canonical: every unused place zero.
+// Leaves the runs of a sound record, with anything in the places that they do not use, canonical: zero there.
 ghost use Rattle.record.specs.Widths.{runsLength};
 ghost use mathlib.Core.Path.{_≡_};
 ghost use Prim.Native.Nat.{ℕ, _≤_};
-ghost use Rattle.tidy.specs.Runs.{used, tidyRun, tidyRuns, entriesFrom};
-ghost use Rattle.tidy.specs.Tidied.{Tidied};
-use record::Counts;
+ghost use Rattle.model.specs.Operations.{pick};
+ghost use Rattle.tidy.specs.Runs.{used, tidyRun, tidyRuns, entriesFrom, fewRuns};
 
 // How many words of the run at a place are in use: six and its numbers where its answer is held, four where it was sent.
 pub(crate) fn used_at(runs: &[u32], at: u32) -> u32
@@ -56,29 +55,19 @@ pub(crate) fn entries_in(runs: &[u32], n: u32) -> usize
     sum
 }
 
-// The rows of a sound record made canonical, and how many undo entries it has. Queues or entries beyond the limits are no sound record's:
-// such rows are left as they are.
-pub fn tidy(counts: Counts, live: &mut [u32], runs: &mut [u32], undo: &mut [u32]) -> u32
-    ensures { λ r. ⌜ Tidied counts (now (live .entry)) (now (runs .entry)) (now (undo .entry)) r
-        (now (live .exit)) (now (runs .exit)) (now (undo .exit)) ⌝ }
+// The runs of a sound record's uncommitted ones made canonical, and how many undo entries they own. More than the limits allow are no sound
+// record's: such runs are left as they are.
+pub fn tidy(runs: &mut [u32], uncommitted: u32) -> u32
+    ensures { λ r. ⌜ r ≡ pick (fewRuns (now (runs .entry)) uncommitted) (entriesFrom (now (runs .entry)) 0 uncommitted) 0 ⌝ }
+    ensures { λ r. ⌜ now (runs .exit) ≡ pick (fewRuns (now (runs .entry)) uncommitted) (tidyRuns (now (runs .entry)) 0 uncommitted) (now (runs .entry)) ⌝ }
 {
-    if model::DEPTH < counts.uncommitted {
+    if model::DEPTH < uncommitted {
         return 0;
     }
-    if model::MOST_LIVE < counts.waiting {
-        return 0;
-    }
-    let n = entries_in(runs, counts.uncommitted);
+    let n = entries_in(runs, uncommitted);
     if (model::MOST_ENTRIES as usize) < n {
         return 0;
     }
-    let entries = n as u32;
-    record::clear(
-        live,
-        record::LIVE_WIDTH * (counts.uncommitted + counts.waiting),
-    );
-    tidy_runs(runs, counts.uncommitted);
-    record::clear(runs, record::RUN_WIDTH * counts.uncommitted);
-    record::clear(undo, record::ENTRY_WIDTH * entries);
-    entries
+    tidy_runs(runs, uncommitted);
+    n as u32
 }

@@ -6,9 +6,12 @@
 //! runs: 16 rows of 16, one beside each uncommitted one: fragments run, state (0 running, 1 finished, 2 failed),
 //!       reply (0 sent, 1 held), number of its own undo entries, held place, held count, eight held numbers, two zeros
 //! undo: 184 pairs of cell and old number, in queue order, oldest first
+//!
+//! Unused places of an accepted call: those that were in use at any time in it and are not after it are cleared; those
+//! that nothing reached stay as they came.
 
 use crate::engine::{Engine, Outcome, Record, Scheme, State, Uncommitted, Waiting, ANSWER_WORDS, DEPTH, MOST_LIVE};
-use crate::event::{Event, Fragment, EVENT_WORDS, FRAGMENT_WORDS, PLACES};
+use crate::event::{Event, Fragment, EVENT_WORDS, FRAGMENT, FRAGMENT_WORDS, PLACES};
 use std::collections::VecDeque;
 
 /// The attempt is the last of them.
@@ -60,6 +63,7 @@ pub fn call_on(
 ) -> (u32, u32) {
     // What is no event of 29 words is not well formed, as 29 zeros are not.
     let event = if event.len() == EVENT_WORDS { Event::read(event) } else { Event::default() };
+    let (before, largest) = (Places::used(&engine.record), engine.record.largest);
     let (number, answers) = engine.call_by(scheme, cells, &event, room.len());
     if number != 0 {
         // Laying out would clear garbage in unused places.
@@ -68,19 +72,51 @@ pub fn call_on(
     for (place, answer) in room.chunks_exact_mut(ANSWER_WORDS).zip(&answers) {
         place.copy_from_slice(&answer.words());
     }
-    lay_out_in(&engine.record, words);
+    let arrives = event.kind == FRAGMENT && event.fragment.number > largest;
+    lay_out_in(&engine.record, before.reached(arrives, &engine.record), words);
     (0, answers.len() as u32)
 }
 
 /// Lays out a sound record. Every unused place is zero, a sent answer's held words too.
 pub fn lay_out(record: &Record) -> Words {
     let mut words = [0; WORDS];
-    lay_out_in(record, &mut words);
+    lay_out_in(record, Places::used(record), &mut words);
     words
 }
 
-fn lay_out_in(record: &Record, words: &mut Words) {
-    words.fill(0);
+/// How many places of each row, from its start on.
+#[derive(Clone, Copy)]
+struct Places {
+    live: usize,
+    runs: usize,
+    entries: usize,
+}
+
+impl Places {
+    fn used(record: &Record) -> Places {
+        let entries = record.uncommitted.iter().map(|one| one.undo.len()).sum();
+        Places { live: record.live().count(), runs: record.uncommitted.len(), entries }
+    }
+
+    /// What was in use at any time in a call, from what was before it. A new number takes a place behind the live ones,
+    /// also where it settles in the same call. A single that settles at once takes no run, and a fragment's entries
+    /// take places when it has passed: so runs and entries are never more than before the call or after it.
+    fn reached(self, arrives: bool, after: &Record) -> Places {
+        let after = Places::used(after);
+        Places {
+            live: after.live.max(self.live + usize::from(arrives)),
+            runs: after.runs.max(self.runs),
+            entries: after.entries.max(self.entries),
+        }
+    }
+}
+
+/// The record's rows over words of any content: what was reached and is not in use is zero, and what was not stays.
+fn lay_out_in(record: &Record, reached: Places, words: &mut Words) {
+    // A wrong engine may have more of them than there is room for.
+    words[LIVE..RUNS].chunks_exact_mut(LIVE_WORDS).take(reached.live).for_each(|row| row.fill(0));
+    words[RUNS..UNDO].chunks_exact_mut(RUN_WORDS).take(reached.runs).for_each(|row| row.fill(0));
+    words[UNDO..].chunks_exact_mut(2).take(reached.entries).for_each(|pair| pair.fill(0));
     let counts = [record.uncommitted.len() as u32, record.waiting.len() as u32];
     words[..4].copy_from_slice(&[record.cells, record.largest, counts[0], counts[1]]);
     let live = record.live().zip(record.attempts());

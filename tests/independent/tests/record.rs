@@ -243,25 +243,111 @@ fn odd_records_that_are_sound() {
     }
 }
 
+/// What stands in the unused places of a littered record.
+const GARBAGE: u32 = TOP - 5;
+
+/// A sound record with garbage in every word that means nothing, those within the runs in use too.
+fn littered(words: &Words) -> Words {
+    let used = read(words).expect("sound");
+    let mut garbage = *words;
+    for at in 4..WORDS as u32 {
+        let changed = with(words, &[(at, GARBAGE)]);
+        if read(&changed).as_ref() == Some(&used) {
+            garbage[at as usize] = GARBAGE;
+        }
+    }
+    garbage
+}
+
 #[test]
 fn garbage_in_unused_places_reaches_nothing() {
     let (words, cells) = base();
-    let used = read(&words).expect("sound");
-    let mut garbage = words;
-    for at in 4..WORDS as u32 {
-        let clean = with(&words, &[(at, TOP - 5)]);
-        if read(&clean).as_ref() == Some(&used) {
-            garbage[at as usize] = TOP - 5;
-        }
-    }
-    assert!(garbage.iter().filter(|&&word| word == TOP - 5).count() > 2000);
+    let garbage = littered(&words);
+    assert!(garbage.iter().filter(|&&word| word == GARBAGE).count() > 2000);
     for event in [Event::commit(3), Event::abort(3), Event::single(20, &[(READ, 0, 0)])] {
         let (mut left, mut right) = (cells.clone(), cells.clone());
-        assert_eq!(careful_call(&garbage, &mut left, &event), careful_call(&words, &mut right, &event));
-        assert_eq!(left, right);
+        let (number, answers, next) = careful_call(&garbage, &mut left, &event);
+        let (clean_number, clean_answers, clean) = careful_call(&words, &mut right, &event);
+        assert_eq!((number, answers, left), (clean_number, clean_answers, right));
+        assert_eq!(read(&next), read(&clean));
     }
     // Refused: the garbage stays, as careful_call sees.
     assert_eq!(careful_call(&garbage, &mut cells.clone(), &Event::commit(5)).0, 7);
+}
+
+/// Of a row: how many places are in use after a call, and how many were reached by it.
+type Row = (u32, u32);
+
+/// Places that were in use at any time in a call and are not after it are cleared, places that no row reached stay as
+/// they came. How far each call reaches was worked by hand: live ones, runs, entries, by speculation and by blocking.
+#[test]
+fn what_becomes_of_unused_places() {
+    let (words, cells) = base();
+    let fresh = start(4).1;
+    let front_alone = [(UNCOMMITTED, 1), (WAITING, 5)];
+    let running = with(&words, &[(UNCOMMITTED, 1), (WAITING, 5), (run(0, 1), 0)]);
+    let finished_tail = with(&words, &[(UNCOMMITTED, 3), (WAITING, 0)]);
+    let singles_wait = with(&waiting_only(3), &[(CELLS, 4)]);
+    let multis_wait = with(&words, &[(UNCOMMITTED, 0), (WAITING, 6)]);
+    let single = Event::single(20, &[(ADD, 0, 1), (SET, 3, 1)]);
+    let passes = Event::last(3, 1, &[(ADD, 0, 1)]);
+    let fails = Event::last(3, 1, &[(SET, 2, 4), (NEED, 2, 5)]);
+    let cases: [(&str, Words, Event, [[Row; 3]; 2]); 13] = [
+        // It takes the first place and leaves it.
+        ("an idle single", fresh, single, [[(0, 1), (0, 0), (0, 0)]; 2]),
+        ("an idle multi", fresh, Event::last(20, 1, &[(ADD, 0, 1), (READ, 1, 0)]), [[(1, 1), (1, 1), (1, 1)]; 2]),
+        ("an arrival that waits", words, single, [[(7, 7), (4, 4), (6, 6)]; 2]),
+        // Two entries more by speculation.
+        ("one that speculates", finished_tail, single, [[(4, 4), (4, 4), (7, 7)], [(4, 4), (3, 3), (5, 5)]]),
+        // The fourth place is that of the single that arrives.
+        ("over singles that wait", singles_wait, single, [[(0, 4), (0, 0), (0, 0)]; 2]),
+        // 3 is not last and runs on; all the others wait.
+        ("over multis that wait", multis_wait, single, [[(7, 7), (1, 1), (2, 2)]; 2]),
+        // 5, 6 and 8 run behind it by speculation.
+        ("a fragment that passes", running, passes, [[(6, 6), (4, 4), (7, 7)], [(6, 6), (1, 1), (4, 4)]]),
+        // Its three entries go; those three have one each.
+        ("one that fails", running, fails, [[(6, 6), (4, 4), (3, 3)], [(6, 6), (1, 1), (0, 3)]]),
+        // 3 and 5 settle; 6 and 8 are uncommitted.
+        ("a commit without drain", words, Event::commit(3), [[(4, 6), (2, 4), (2, 6)]; 2]),
+        // 5 settles, 6 is the front, and 8 runs by speculation.
+        (
+            "a commit and its drain",
+            with(&words, &front_alone),
+            Event::commit(3),
+            [[(4, 6), (2, 2), (2, 3)], [(4, 6), (1, 1), (1, 3)]],
+        ),
+        ("an abort", words, Event::abort(3), [[(4, 6), (2, 4), (2, 6)], [(4, 6), (1, 4), (1, 6)]]),
+        (
+            "an abort of the front alone",
+            with(&words, &front_alone),
+            Event::abort(3),
+            [[(4, 6), (2, 2), (2, 3)], [(4, 6), (1, 1), (1, 3)]],
+        ),
+        (
+            "an abort that leaves nothing",
+            with(&words, &[(UNCOMMITTED, 1), (WAITING, 0)]),
+            Event::abort(3),
+            [[(0, 1), (0, 1), (0, 3)]; 2],
+        ),
+    ];
+    for (name, record, event, rows) in cases {
+        let garbage = littered(&record);
+        for (scheme, rows) in Scheme::ALL.into_iter().zip(rows) {
+            let (mut left, mut right) = (cells.clone(), cells.clone());
+            let (number, answers, next) = careful_call_by(scheme, &garbage, &mut left, &event);
+            let (_, clean_answers, clean) = careful_call_by(scheme, &record, &mut right, &event);
+            assert_eq!((number, answers, left), (0, clean_answers, right), "{name}, {scheme:?}");
+            let ranges = [(LIVE, LIVE_WORDS, RUNS), (RUNS, RUN_WORDS, UNDO), (UNDO, 2, WORDS)];
+            assert_eq!(next[..4], clean[..4], "{name}, {scheme:?}");
+            for ((from, length, to), (used, reached)) in ranges.into_iter().zip(rows) {
+                let [used, reached] = [used, reached].map(|places| from + length * places as usize);
+                assert_eq!(next[from..used], clean[from..used], "{name}, {scheme:?}: in use");
+                assert!(next[used..reached].iter().all(|&word| word == 0), "{name}, {scheme:?}: reached");
+                assert_eq!(next[reached..to], garbage[reached..to], "{name}, {scheme:?}: not reached");
+                assert!(garbage[reached..to].iter().all(|&word| word == GARBAGE), "{name}, {scheme:?}");
+            }
+        }
+    }
 }
 
 #[test]

@@ -2,11 +2,12 @@
 
 use crate::arena::{Arena, Lent, MOST_ROOM};
 use crate::bench::{Bench, Difference, Done};
-use crate::damage::Damage;
+use crate::damage::{garbage, Damage};
 use crate::hostile;
 use crate::life::Life;
 use crate::subject::Subject;
 use crate::tally::{Met, Tally};
+use crate::unused::seen;
 use crate::view::*;
 use independent::engine::{ANSWER_WORDS, DEPTH, ROOM};
 use independent::event::{COMMIT, EVENT_WORDS, TOP};
@@ -22,6 +23,8 @@ const SPOILED: u32 = 16;
 const OTHER_LENGTH: u32 = 3;
 const OTHER_ROOM: u32 = 6;
 const OTHER_CELLS: u32 = 6;
+/// Of a life that has any garbage.
+const BEGINS_WITH_GARBAGE: u32 = 70;
 
 pub struct Batch<'a, S> {
     bench: &'a mut Bench<S>,
@@ -97,8 +100,11 @@ impl<S: Subject> Batch<'_, S> {
             let mut noise = Random(noise);
             arena.cells_mut(count).iter_mut().for_each(|cell| *cell = Life::content(&mut noise, full));
         });
-        self.bench.pair();
         (self.until_good, self.sound) = (None, true);
+        if self.life.garbage > 0 && self.random.percent(BEGINS_WITH_GARBAGE) {
+            self.litter();
+        }
+        self.bench.pair();
         Ok(())
     }
 
@@ -124,6 +130,9 @@ impl<S: Subject> Batch<'_, S> {
     }
 
     fn step(&mut self) -> Result<(), Difference> {
+        if self.sound && self.random.percent(self.life.garbage) {
+            self.litter();
+        }
         let damaged = self.random.percent(DAMAGED).then(|| self.damage()).flatten();
         let lent = self.prepare();
         // A damaged record has no twin; the one that the life returns to has.
@@ -147,6 +156,12 @@ impl<S: Subject> Batch<'_, S> {
         Ok(())
     }
 
+    /// Garbage in the unused places of a sound record. The twin keeps its own.
+    fn litter(&mut self) {
+        let random = &mut self.random;
+        self.bench.change_record(|record| Some(garbage(random, record)));
+    }
+
     fn call(&mut self, lent: Lent) -> Result<Done, Difference> {
         let (scheme, old_answers) = (self.life.scheme(&mut self.random), self.random.word());
         let clean = self.bench.twin.called;
@@ -154,12 +169,14 @@ impl<S: Subject> Batch<'_, S> {
         let taken_over = clean && takes_over(scheme, view);
         let commits = clean && self.bench.areas().event(lent.event).first() == Some(&COMMIT);
         let ran: Vec<u32> = (0..view.uncommitted()).filter(|_| commits).map(|row| view.stored(row, NUMBER)).collect();
+        let before = *view.0;
         self.done += 1;
         let done = self.bench.call(scheme, lent, old_answers)?;
         let areas = self.bench.areas();
         let released = if done.number == 0 { released(areas, done.answers, &ran) } else { 0 };
         let again = if clean && done.number == 0 { again(areas, done.answers) } else { [0; 3] };
-        self.tally.note(scheme, Met { taken_over, released, again }, &done);
+        let unused = (done.number == 0).then(|| seen(&before, areas.event(lent.event), areas.record()));
+        self.tally.note(scheme, Met { taken_over, released, again, unused }, &done);
         Ok(done)
     }
 

@@ -40,6 +40,7 @@ listed! {
         Requeued,
         Promoted,
         NothingUncommitted,
+        SinglesWait,
         Full,
         HeldChanged,
         SentOrHeld,
@@ -347,8 +348,11 @@ fn break_run(clause: Clause, random: &mut Random, words: &mut Words, huge: u32) 
             words[run_at(row, field)] = random.pick(&[9, 9, 10, huge]);
         }
         Clause::EntriesBeyond8EachRun => {
-            let fragments = view.run(any, FRAGMENTS);
+            let (fragments, entries) = (view.run(any, FRAGMENTS), view.entries());
             words[run_at(any, ENTRIES)] = fragments.wrapping_mul(8).wrapping_add(random.pick(&[1, 1, 2]));
+            // What stood there may name any cell.
+            let more = View(words).entries().max(entries);
+            words[undo_at(entries, 0)..undo_at(more, 0)].fill(0);
         }
         Clause::StateOfNothing => words[run_at(any, STATE)] = random.pick(&[3, 3, 4, huge]),
         Clause::ReplyOfNothing => words[run_at(any, REPLY)] = random.pick(&[2, 2, 3, huge]),
@@ -384,6 +388,10 @@ fn odd(kind: Odd, random: &mut Random, words: &mut Words) -> Option<()> {
             (uncommitted > 0 || view.is_multi(0)).then(|| promote(words, count))?;
         }
         Odd::NothingUncommitted if live > 0 => (words[UNCOMMITTED], words[WAITING]) = (0, live as u32),
+        Odd::SinglesWait => {
+            (words[UNCOMMITTED], words[WAITING]) = (0, 0);
+            fill_live(words, random.between(1, 12))?;
+        }
         Odd::Full => {
             fill_live(words, random.pick(&[63, 64, 64]))?;
             if random.percent(50) {
@@ -447,23 +455,33 @@ fn store_another(random: &mut Random, words: &mut Words, row: usize) {
     }
 }
 
-/// Anything in all places that no call reads, and in a sent answer's held words.
-fn garbage(random: &mut Random, words: &mut Words) {
+/// Anything in all unused places of a sound record, which changes nothing that it means: noise, one word over and over,
+/// or what stands in use ahead of it.
+pub fn garbage(random: &mut Random, words: &mut Words) {
     let view = View(words);
-    let (live, uncommitted, entries) = (view.live(), view.uncommitted(), view.entries());
-    let wild = random.word() | 1;
-    let mut word = wild;
+    let rows = [
+        (LIVE, live_at(view.live(), 0), RUNS),
+        (RUNS, run_at(view.uncommitted(), 0), UNDO),
+        (UNDO, undo_at(view.entries(), 0), WORDS),
+    ];
+    let same = random.pick(&[1, 9, 1 << 31, TOP]);
+    let (repeats, noise) = (random.percent(30), random.percent(60));
+    let mut word = random.word() | 1;
     let mut next = || {
         word = word.wrapping_mul(0x9e37_79b1).rotate_left(7);
-        word
+        if noise {
+            word
+        } else {
+            same
+        }
     };
-    words[live_at(live, 0)..RUNS].iter_mut().for_each(|place| *place = next());
-    words[run_at(uncommitted, 0)..UNDO].iter_mut().for_each(|place| *place = next());
-    words[undo_at(entries, 0)..].iter_mut().for_each(|place| *place = next());
-    for row in 0..uncommitted {
-        let held = words[run_at(row, REPLY)] == HELD;
-        let from = if held { 6 + words[run_at(row, NUMBERS)] as usize } else { PLACE };
-        words[run_at(row, from)..run_at(row + 1, 0)].iter_mut().for_each(|place| *place = next());
+    for row in 0..View(words).uncommitted() {
+        let unused = View(words).unused_of_run(row);
+        words[unused].iter_mut().for_each(|place| *place = next());
+    }
+    for (from, unused, to) in rows {
+        let used = unused - from;
+        (unused..to).for_each(|at| words[at] = if repeats && used > 0 { words[at - used] } else { next() });
     }
 }
 

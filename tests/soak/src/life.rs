@@ -71,7 +71,9 @@ pub struct Life {
     scheme: Scheme,
     /// Chance that a call changes over to the other scheme: never, now and then, or at any call.
     changes: u32,
-    /// Nothing but calls made the record what it is.
+    /// Chance that a call finds anything in all unused places, which changes nothing that the record means.
+    pub garbage: u32,
+    /// Nothing but calls made the record what it means.
     pub clean: bool,
 }
 
@@ -99,6 +101,7 @@ impl Life {
             before: Event::default(),
             scheme: random.pick(&Scheme::ALL),
             changes: random.pick(&[0, 0, 0, 3, 50]),
+            garbage: random.pick(&[0, 0, 3, 10]),
             clean: true,
         }
     }

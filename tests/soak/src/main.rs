@@ -23,6 +23,7 @@
 //! * `merge`: what is tried as a partition of two merges
 //! * `batch`: the mix of calls; `life`: events that mean something; `hostile`: any words and lengths
 //! * `damage`: records that no run leaves; `clauses`: which clauses of soundness a record breaks; `view`: its words
+//! * `unused`: garbage in the unused places of sound records, and the kinds of calls that met it
 //! * `wrong`: wrong engines; `tally`: what a run met
 
 mod arena;
@@ -37,6 +38,7 @@ mod merge;
 mod subject;
 mod tally;
 mod twin;
+mod unused;
 mod view;
 mod wrong;
 

@@ -2,6 +2,7 @@
 
 use crate::bench::Done;
 use crate::damage::Damage;
+use crate::unused::{Kind, Seen, Stood};
 use independent::engine::{DEPTH, MOST_LIVE};
 use independent::Scheme;
 use std::fmt;
@@ -41,6 +42,8 @@ pub struct OfScheme {
     pub dependent_again: u64,
     /// Answers that depend on another attempt than their own is.
     pub apart: u64,
+    /// Accepted calls that met garbage in unused places, by their kind and where it stood.
+    pub unused: [[u64; Stood::ALL.len()]; Kind::ALL.len()],
 }
 
 /// What is known of a call beside what it gave.
@@ -52,6 +55,8 @@ pub struct Met {
     pub released: usize,
     /// Answers of attempt 2 or more, answers that depend on one, and answers that depend on another attempt than theirs.
     pub again: [u64; 3],
+    /// Of an accepted one: its kind, and garbage that it met in unused places.
+    pub unused: Option<Seen>,
 }
 
 #[derive(Clone)]
@@ -103,6 +108,9 @@ impl Tally {
         if let Some(at) = met.released.min(3).checked_sub(1) {
             by.released[at] += 1;
         }
+        if let Some((kind, stood)) = met.unused {
+            by.unused[kind as usize].iter_mut().zip(stood).for_each(|(count, stood)| *count += u64::from(stood));
+        }
         self.answers += u64::from(answers);
         self.most_answers = self.most_answers.max(answers);
         if let Some(pair) = pair {
@@ -134,7 +142,14 @@ impl Tally {
                 (format!("a dependence on attempt 2 or more by {by}"), of.dependent_again),
                 (format!("a dependence on another attempt than its own by {by}"), of.apart),
             ];
-            returned.chain([(format!("a changeover to {by}"), of.taken_over)]).chain(released).chain(again)
+            let unused = Kind::ALL.iter().flat_map(move |&kind| {
+                let possible = Stood::ALL.iter().filter(move |stood| stood.possible(kind, scheme));
+                possible.map(move |&stood| {
+                    (format!("garbage {stood:?} in {kind:?} by {by}"), of.unused[kind as usize][stood as usize])
+                })
+            });
+            let taken_over = [(format!("a changeover to {by}"), of.taken_over)];
+            returned.chain(taken_over).chain(released).chain(again).chain(unused)
         });
         let corners = [
             ("16 uncommitted".to_string(), self.uncommitted[DEPTH]),
@@ -165,7 +180,7 @@ impl fmt::Display for Tally {
         writeln!(f, "calls {calls} and {starts} starts, {lives} lives")?;
         writeln!(f, "answers sent {answers}, at most {most_answers} in a call")?;
         for (scheme, of) in Scheme::ALL.iter().zip(&self.by) {
-            let OfScheme { returned, taken_over, released, again, dependent_again, apart } = of;
+            let OfScheme { returned, taken_over, released, again, dependent_again, apart, .. } = of;
             let calls: u64 = returned.iter().sum();
             write!(f, "by {} {calls} calls, returned", scheme.word())?;
             for (number, count) in returned.iter().enumerate() {
@@ -186,6 +201,13 @@ impl fmt::Display for Tally {
             "pairs, the same event by either scheme: {calls} calls with equal numbers and equal ones live, {singles} \
              answers of singles, {attempts} of them equal but for the attempt, {nothing_live} times nothing live and equal cells"
         )?;
+        writeln!(f, "garbage in unused places, accepted calls by kind and by where it stood, {:?}:", Stood::ALL)?;
+        for (scheme, of) in Scheme::ALL.iter().zip(&self.by) {
+            for (kind, counts) in Kind::ALL.iter().zip(&of.unused) {
+                let counts: Vec<_> = counts.iter().map(u64::to_string).collect();
+                writeln!(f, "  {kind:?} by {}: {}", scheme.word(), counts.join(" / "))?;
+            }
+        }
         let ((deep, deep_times), (full, full_times)) = (most(&self.uncommitted), most(&self.live));
         writeln!(
             f,

@@ -1,7 +1,9 @@
 //! A record of any words, read without trust: counts are cut to what there is room for.
 
 use independent::engine::{DEPTH, MOST_LIVE};
+use independent::event::PLACES;
 use independent::layout::{Words, LIVE, LIVE_WORDS, RUNS, RUN_WORDS, UNDO, UNDO_ENTRIES};
+use std::ops::Range;
 
 pub const CELLS: usize = 0;
 pub const LARGEST: usize = 1;
@@ -83,6 +85,13 @@ impl View<'_> {
     pub fn entries(&self) -> usize {
         let sum = (0..self.uncommitted()).map(|row| self.run(row, ENTRIES) as usize).sum::<usize>();
         sum.min(UNDO_ENTRIES)
+    }
+
+    /// Words of a run in use that mean nothing: an answer's that was sent, numbers beyond a held one's count, the spare
+    /// ones.
+    pub fn unused_of_run(&self, row: usize) -> Range<usize> {
+        let numbers = PLACES.min(self.run(row, NUMBERS) as usize);
+        run_at(row, if self.run(row, REPLY) == HELD { NUMBERS + 1 + numbers } else { PLACE })..run_at(row + 1, 0)
     }
 
     pub fn is_live(&self, number: u32) -> bool {

@@ -4,10 +4,10 @@ use crate::arena::Areas;
 use crate::clauses::{broken, Clause};
 use crate::listed::listed;
 use crate::subject::Subject;
-use crate::view::{live_at, View, ANSWER_ATTEMPT, ATTEMPT, CELLS, NUMBER, UNCOMMITTED, WAITING};
+use crate::view::*;
 use independent::engine::{State, ANSWER_WORDS, MOST_LIVE, ROOM};
-use independent::event::{Event, ABORT, EVENT_WORDS};
-use independent::layout::{self, Words, RUNS, RUN_WORDS, UNDO, WORDS};
+use independent::event::{Event, ABORT, COMMIT, EVENT_WORDS, FRAGMENT};
+use independent::layout::{self, Words, LIVE_WORDS, RUNS, RUN_WORDS, UNDO, WORDS};
 use independent::{Engine, Fault, Record, Scheme};
 use std::hint::black_box;
 use std::slice;
@@ -49,6 +49,33 @@ listed! {
         CellsAfterForm,
         GarbageKept,
         GarbageInAnswers,
+        /// Keeps the held words of answers that were sent before, where their runs stay in their places.
+        SentWordsKept,
+        /// Clears every unused place, also where no row came.
+        AllCleared,
+        LiveCleared,
+        RunsCleared,
+        EntriesCleared,
+        /// Clears one place more than was reached.
+        OneLiveMoreCleared,
+        OneRunMoreCleared,
+        OneEntryMoreCleared,
+        /// Leaves the place of an arriving single that settles as it came.
+        ArrivedPlaceKept,
+        /// The same, but not where nothing is live before it.
+        ArrivedPlaceKeptOverWaiting,
+        /// Leaves the single's words there.
+        ArrivedWordsLeft,
+        /// Leaves what a commit dropped at the row's end.
+        CommitLeavesLive,
+        CommitLeavesRuns,
+        CommitLeavesEntries,
+        /// Leaves what an abort dropped.
+        AbortLeavesLive,
+        AbortLeavesRuns,
+        AbortLeavesEntries,
+        /// Leaves the entries that a failed fragment of the front dropped.
+        FailureLeavesEntries,
         HeldNumbersForgotten,
         StateOfLastFlag,
         FailedOwnsNothing,
@@ -361,6 +388,52 @@ impl Slip {
                 call.room[ANSWER_ATTEMPT] *= u32::from(!of_front);
             }
             Slip::GarbageInAnswers if answers > 0 => call.room[filled - 1] = before[RUNS + RUN_WORDS - 1],
+            // An engine that takes other lengths is wrong by that.
+            _ if call.event.len() == EVENT_WORDS => self.in_unused_places(call, before),
+            _ => {}
+        }
+    }
+
+    /// Errors in what becomes of unused places.
+    fn in_unused_places(self, call: &mut Call, before: &Words) {
+        let (was, is) = (View(before), View(call.record));
+        let arrives = call.event[0] == FRAGMENT && call.event[1] > was.largest();
+        let settles = arrives && !is.is_live(call.event[1]);
+        let [live, runs, entries] = [is.live(), is.uncommitted(), is.entries()];
+        let [old_live, old_runs, old_entries] = [was.live(), was.uncommitted(), was.entries()];
+        // Of each row: the words in use after the call, and those that were reached.
+        let of_live = (live_at(live, 0), live_at(live.max(old_live + usize::from(arrives)), 0));
+        let of_runs = (run_at(runs, 0), run_at(runs.max(old_runs), 0));
+        let of_entries = (undo_at(entries, 0), undo_at(entries.max(old_entries), 0));
+        let arrived = live_at(old_live, 0)..live_at(old_live + 1, 0);
+        let (commits, aborts) = (call.event[0] == COMMIT, call.event[0] == ABORT);
+        let mut leave = |(from, to): (usize, usize)| call.record[from..to].copy_from_slice(&before[from..to]);
+        match self {
+            Slip::ArrivedPlaceKept if settles => leave((arrived.start, arrived.end)),
+            Slip::ArrivedPlaceKeptOverWaiting if settles && old_live > 0 => leave((arrived.start, arrived.end)),
+            Slip::ArrivedWordsLeft if settles => call.record[arrived][..ATTEMPT].copy_from_slice(&call.event[1..]),
+            Slip::CommitLeavesLive if commits => leave(of_live),
+            Slip::CommitLeavesRuns if commits => leave(of_runs),
+            Slip::CommitLeavesEntries if commits => leave(of_entries),
+            Slip::AbortLeavesLive if aborts => leave(of_live),
+            Slip::AbortLeavesRuns if aborts => leave(of_runs),
+            Slip::AbortLeavesEntries if aborts => leave(of_entries),
+            Slip::FailureLeavesEntries if !arrives && !commits && !aborts => leave(of_entries),
+            Slip::SentWordsKept if !commits && !aborts => {
+                let sent = |row: &usize| was.run(*row, REPLY) != HELD;
+                (0..old_runs).filter(sent).for_each(|row| leave((run_at(row, PLACE), run_at(row + 1, 0))));
+            }
+            Slip::AllCleared => {
+                for (from, to) in [(of_live.0, RUNS), (of_runs.0, UNDO), (of_entries.0, WORDS)] {
+                    call.record[from..to].fill(0);
+                }
+            }
+            Slip::LiveCleared => call.record[of_live.0..RUNS].fill(0),
+            Slip::RunsCleared => call.record[of_runs.0..UNDO].fill(0),
+            Slip::EntriesCleared => call.record[of_entries.0..].fill(0),
+            Slip::OneLiveMoreCleared => call.record[of_live.1..RUNS.min(of_live.1 + LIVE_WORDS)].fill(0),
+            Slip::OneRunMoreCleared => call.record[of_runs.1..UNDO.min(of_runs.1 + RUN_WORDS)].fill(0),
+            Slip::OneEntryMoreCleared => call.record[of_entries.1..WORDS.min(of_entries.1 + 2)].fill(0),
             _ => {}
         }
     }

@@ -8,10 +8,10 @@ use denote.Enum.Laws as EL
 use Rattle.model.specs.declared.Scheme.the-variants.{Blocking}
 use Rattle.model.proofs.Scheme as S
 use Rattle.model.proofs.Scheme.Laws as S′
-use Rattle.boundary.proofs.Walk.{CallWords, meets}
-use Rattle.boundary.proofs.call_words.Symbol as call-words-def
-use Rattle.boundary.proofs.call_words.Symbol.{name as #boundary·call-words}
-use Rattle.boundary.proofs.call_words.Met as call-words-thm
+use Rattle.boundary.proofs.Walk.{CallOn, meets}
+use Rattle.boundary.proofs.call_on.Symbol as call-on-def
+use Rattle.boundary.proofs.call_on.Symbol.{name as #boundary·call-on}
+use Rattle.boundary.proofs.call_on.Met as call-on-thm
 use Rattle.boundary.proofs.harukdalis_call_blocking.Key.{name as #boundary·harukdalis-call-blocking}
 use Rattle.boundary.proofs.harukdalis_call_blocking as f
 use Rattle.boundary.proofs.harukdalis_call_blocking.Statement as stated
@@ -23,4 +23,4 @@ harukdalis-call-blocking-spec 𝓤 H 𝓜 𝓖 𝓡 =
     entered 𝓤 H (tripleOf 𝓤 H (𝓖 .A) f.signature (f.spec 𝓤 H (𝓖 .A) (𝓜 .mem) (𝓡 .run)))
     (tables 𝓤 H 𝓜 𝓡 code.env .C) (tables 𝓤 H 𝓜 𝓡 code.env .Λ) #boundary·harukdalis-call-blocking code.function (code.unfolded 𝓤 H 𝓜 𝓡)
     (meets Blocking 1 tt (tt, (record { fits = omega arith }, tt)) (EL.owes S.the-type S′.the-laws Blocking tt) 𝓤 H (𝓖 .A) (givenOf 𝓤 H 𝓜 𝓖) (𝓜 .mem) (𝓡 .run) (tablesOf 𝓤 H 𝓜 (tables 𝓤 H 𝓜 𝓡 code.env))
-    (cited 𝓤 H (CallWords 𝓤 H (𝓖 .A) (𝓜 .mem) (𝓡 .run)) 𝓜 𝓡 code.env #boundary·call-words call-words-def.routine code.calls-boundary·call-words (call-words-thm.met 𝓤 H 𝓜 𝓖 𝓡)))
+    (cited 𝓤 H (CallOn 𝓤 H (𝓖 .A) (𝓜 .mem) (𝓡 .run)) 𝓜 𝓡 code.env #boundary·call-on call-on-def.routine code.calls-boundary·call-on (call-on-thm.met 𝓤 H 𝓜 𝓖 𝓡)))

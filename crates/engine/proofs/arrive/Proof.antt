@@ -1,7 +1,8 @@
 use mathlib.Core.Path.{refl, sym, _∙_}
 use borrow.Author.Tests.{eq-eqb}
 use Rattle.engine.proofs.Accepting.{fair-of, front-some, continue-begun, join-begun}
-use Rattle.engine.proofs.Staying.{kept-at}
+use mathlib.Core.Path.{subst}
+use Rattle.engine.specs.Work.{Same}
 use borrow.Author.Needs.{needs}
 use Rattle.engine.proofs.arrive.Statement.{statement}
 use Rattle.engine.proofs.arrive.Tie as tie
@@ -17,7 +18,7 @@ is-front-requires c κs = search needs
 continue-front-requires : tie.Need-continue-front-requires
 continue-front-requires c κs = let a = c .before .before .before .before .before .before .before .before .before .before .before .before .before .before .args in
     let p = c .before .before .before .before .before .before .before .before .before .before .before .before .before .before .pre .0 in
-    (fair-of (p .0) (a .live .now) (a .runs .now) (a .undo .now) (a .room .now) (a .cells .now) (a .c) (a .event) (p .1 .0) (p .1 .1), front-some (a .c .counts .uncommitted) (a .live .now) (a .event .number) (sym (c .before .before .before .before .before .before .is-front .ensures) ∙ c .before .before .before .before .before .if1 .taken))
+    (fair-of (p .0) (a .live .now) (a .runs .now) (a .undo .now) (a .room .now) (a .cells .now) (a .c) (a .event) (p .1 .0) (p .1 .1 .0) (p .1 .1 .1), front-some (a .c .counts .uncommitted) (a .live .now) (a .event .number) (sym (c .before .before .before .before .before .before .is-front .ensures) ∙ c .before .before .before .before .before .if1 .taken))
 
 same-length : tie.Need-same-length
 same-length c = search needs
@@ -37,15 +38,15 @@ same-length-5 c = search needs
 returns : tie.Need-returns
 returns c = let a = c .before .before .before .before .before .before .before .before .before .before .before .before .before .before .before .before .before .before .before .before .before .before .before .args in
     let s = c .before .before .before .before .before .before .before .before .continue-front in (
-      λ σ e rd. continue-begun σ (a .live .now) (a .runs .now) (a .undo .now) (a .room .now) (a .cells .now) (a .c) (a .event) e rd (eq-eqb (a .event .kind) 1 (c .before .before .before .before .before .before .before .before .before .before .before .before .before .before .before .before .before .before .before .before .before .before .before .pre .1)) (sym (c .before .before .before .before .before .before .before .before .before .before .before .before .before .before .before .is-front .ensures) ∙ c .before .before .before .before .before .before .before .before .before .before .before .before .before .before .if1 .taken)
-          (s .last .1 .0) (s .last .1 .1 .0) (s .last .1 .1 .1 .1 .0) (s .last .1 .1 .1 .0) (s .result) (s .ensures .1 .0) (s .ensures .0),
-      s .ensures .1 .1,
+      λ σ e came rd. continue-begun σ (a .live .now) (a .runs .now) (a .undo .now) (a .room .now) (a .cells .now) (a .c) (a .event) e came rd (eq-eqb (a .event .kind) 1 (c .before .before .before .before .before .before .before .before .before .before .before .before .before .before .before .before .before .before .before .before .before .before .before .pre .1)) (sym (c .before .before .before .before .before .before .before .before .before .before .before .before .before .before .before .is-front .ensures) ∙ c .before .before .before .before .before .before .before .before .before .before .before .before .before .before .if1 .taken)
+          (s .last .1 .0) (s .last .1 .1 .0) (s .last .1 .1 .1 .1 .0) (s .last .1 .1 .1 .0) (s .result) (s .ensures .0) (s .ensures .1 .2),
+      (s .ensures .1 .0, s .ensures .1 .1),
     )
 
 join-waiting-requires : tie.Need-join-waiting-requires
 join-waiting-requires c κs = let a = c .before .before .before .before .before .before .before .before .before .before .args in
     let p = c .before .before .before .before .before .before .before .before .before .before .pre .0 in
-    fair-of (p .0) (a .live .now) (a .runs .now) (a .undo .now) (a .room .now) (a .cells .now) (a .c) (a .event) (p .1 .0) (p .1 .1) .live
+    fair-of (p .0) (a .live .now) (a .runs .now) (a .undo .now) (a .room .now) (a .cells .now) (a .c) (a .event) (p .1 .0) (p .1 .1 .0) (p .1 .1 .1) .live
 
 same-length-6 : tie.Need-same-length-6
 same-length-6 c = search needs
@@ -53,8 +54,8 @@ same-length-6 c = search needs
 returns-2 : tie.Need-returns-2
 returns-2 c = let a = c .before .before .before .before .before .before .before .before .before .before .before .before .before .args in
     let s = c .before .before .join-waiting in (
-      λ σ e rd. join-begun σ (a .live .now) (a .runs .now) (a .undo .now) (a .room .now) (a .cells .now) (a .c) (a .event) e rd (eq-eqb (a .event .kind) 1 (c .before .before .before .before .before .before .before .before .before .before .before .before .before .pre .1)) (sym (c .before .before .before .before .before .is-front .ensures) ∙ c .before .before .before .before .if1 .left) (s .last .0) (s .result) (s .ensures .1) (s .ensures .0),
-      kept-at (a .c) _ (s .result) (s .ensures .0) (refl, refl),
+      λ σ e came rd. join-begun σ (a .live .now) (a .runs .now) (a .undo .now) (a .room .now) (a .cells .now) (a .c) (a .event) e came rd (eq-eqb (a .event .kind) 1 (c .before .before .before .before .before .before .before .before .before .before .before .before .before .pre .1)) (sym (c .before .before .before .before .before .is-front .ensures) ∙ c .before .before .before .before .if1 .left) (s .last .0) (s .result) (s .ensures .1) (s .ensures .0),
+      subst (Same (a .c)) (sym (s .ensures .0)) (refl, refl),
     )
 
 pub arrive-spec : {M : Type 1} → statement M

@@ -1,4 +1,5 @@
 use native.Mathlib.Omega.{arith}
+use mathlib.Core.Path.{sym}
 use borrow.Author.Tests.{eq-eqb, ne-eqb}
 use Rattle.engine.proofs.Accepting.{fair-of, some-uncommitted, commit-begun, abort-begun}
 use borrow.Author.Needs.{needs}
@@ -34,7 +35,7 @@ returns c = search needs
 commit-requires : tie.Need-commit-requires
 commit-requires c κs = let a = c .before .before .before .before .before .before .before .before .before .before .before .before .before .args in
     let p = c .before .before .before .before .before .before .before .before .before .before .before .before .before .pre in
-    (fair-of (p .0) (a .live .now) (a .runs .now) (a .undo .now) (a .room .now) (a .cells .now) (a .c) (a .event) (p .1 .0) (p .1 .1), some-uncommitted (p .0) (a .live .now) (a .runs .now) (a .undo .now) (a .room .now) (a .cells .now) (a .c) (a .event) (p .1 .0) (p .1 .1) (ne-eqb (a .event .kind) 1 (c .before .before .before .before .before .before .if1 .left)))
+    (fair-of (p .0) (a .live .now) (a .runs .now) (a .undo .now) (a .room .now) (a .cells .now) (a .c) (a .event) (p .1 .0) (p .1 .1 .0) (p .1 .1 .1), (some-uncommitted (p .0) (a .live .now) (a .runs .now) (a .undo .now) (a .room .now) (a .cells .now) (a .c) (a .event) (p .1 .0) (p .1 .1 .0) (p .1 .1 .1) (ne-eqb (a .event .kind) 1 (c .before .before .before .before .before .before .if1 .left)), sym (p .1 .1 .1 .work .first)))
 
 same-length-6 : tie.Need-same-length-6
 same-length-6 c = search needs
@@ -51,14 +52,14 @@ same-length-9 c = search needs
 returns-2 : tie.Need-returns-2
 returns-2 c = let a = c .before .before .before .before .before .before .before .before .before .before .before .before .before .before .before .before .before .before .before .before .args in
     let s = c .before .before .before .before .before .before .commit in (
-      λ σ e rd. commit-begun σ (a .live .now) (a .runs .now) (a .undo .now) (a .room .now) (a .cells .now) (a .c) (a .event) e rd (ne-eqb (a .event .kind) 1 (c .before .before .before .before .before .before .before .before .before .before .before .before .before .if1 .left)) (eq-eqb (a .event .kind) 2 (c .before .before .before .before .before .before .before .before .before .before .before .if2 .taken)) (s .last .1 .0) (s .last .1 .1 .0) (s .last .1 .1 .1 .0) (s .result) (s .ensures .1 .0) (s .ensures .0),
-      s .ensures .1 .1,
+      λ σ e came rd. commit-begun σ (a .live .now) (a .runs .now) (a .undo .now) (a .room .now) (a .cells .now) (a .c) (a .event) e came rd (ne-eqb (a .event .kind) 1 (c .before .before .before .before .before .before .before .before .before .before .before .before .before .if1 .left)) (eq-eqb (a .event .kind) 2 (c .before .before .before .before .before .before .before .before .before .before .before .if2 .taken)) (s .last .1 .0) (s .last .1 .1 .0) (s .last .1 .1 .1 .0) (s .result) (s .ensures .0) (s .ensures .1 .2),
+      (s .ensures .1 .0, s .ensures .1 .1),
     )
 
 abort-requires : tie.Need-abort-requires
 abort-requires c κs = let a = c .before .before .before .before .before .before .before .before .before .before .before .before .before .args in
     let p = c .before .before .before .before .before .before .before .before .before .before .before .before .before .pre in
-    (fair-of (p .0) (a .live .now) (a .runs .now) (a .undo .now) (a .room .now) (a .cells .now) (a .c) (a .event) (p .1 .0) (p .1 .1), some-uncommitted (p .0) (a .live .now) (a .runs .now) (a .undo .now) (a .room .now) (a .cells .now) (a .c) (a .event) (p .1 .0) (p .1 .1) (ne-eqb (a .event .kind) 1 (c .before .before .before .before .before .before .if1 .left)))
+    (fair-of (p .0) (a .live .now) (a .runs .now) (a .undo .now) (a .room .now) (a .cells .now) (a .c) (a .event) (p .1 .0) (p .1 .1 .0) (p .1 .1 .1), some-uncommitted (p .0) (a .live .now) (a .runs .now) (a .undo .now) (a .room .now) (a .cells .now) (a .c) (a .event) (p .1 .0) (p .1 .1 .0) (p .1 .1 .1) (ne-eqb (a .event .kind) 1 (c .before .before .before .before .before .before .if1 .left)))
 
 same-length-10 : tie.Need-same-length-10
 same-length-10 c = search needs
@@ -75,8 +76,8 @@ same-length-13 c = search needs
 returns-3 : tie.Need-returns-3
 returns-3 c = let a = c .before .before .before .before .before .before .before .before .before .before .before .before .before .before .before .before .before .before .before .before .before .before .args in
     let s = c .before .before .before .before .before .before .before .before .abort in (
-      λ σ e rd. abort-begun σ (a .live .now) (a .runs .now) (a .undo .now) (a .room .now) (a .cells .now) (a .c) (a .event) e rd (ne-eqb (a .event .kind) 1 (c .before .before .before .before .before .before .before .before .before .before .before .before .before .before .before .if1 .left)) (ne-eqb (a .event .kind) 2 (c .before .before .before .before .before .before .before .before .before .before .before .before .before .if2 .left)) (s .last .0) (s .last .1 .0) (s .last .1 .1 .0) (s .last .1 .1 .1 .0) (s .result) (s .ensures .1 .0) (s .ensures .0),
-      s .ensures .1 .1,
+      λ σ e came rd. abort-begun σ (a .live .now) (a .runs .now) (a .undo .now) (a .room .now) (a .cells .now) (a .c) (a .event) e came rd (ne-eqb (a .event .kind) 1 (c .before .before .before .before .before .before .before .before .before .before .before .before .before .before .before .if1 .left)) (ne-eqb (a .event .kind) 2 (c .before .before .before .before .before .before .before .before .before .before .before .before .before .if2 .left)) (s .last .0) (s .last .1 .0) (s .last .1 .1 .0) (s .last .1 .1 .1 .0) (s .result) (s .ensures .0) (s .ensures .1 .2),
+      (s .ensures .1 .0, s .ensures .1 .1),
     )
 
 pub enter-spec : {M : Type 1} → statement M

@@ -6,8 +6,7 @@ use native.Mathlib.Omega.{arith}
 use mathlib.Core.Path.{_≡_, refl, sym, _∙_, ap}
 use mathlib.Core.List.{List, []}
 use lib.ListN.{length, take, drop, getD}
-use Rattle.model.specs.Refusals.{every, formedOp, blankOp}
-use Rattle.operations.specs.Laid.{cellBelow}
+use Rattle.model.specs.Refusals.{every, formedOp}
 use borrow.Author.Needs.{needs}
 use Rattle.operations.proofs.ops_formed.Statement.{statement}
 use Rattle.operations.proofs.ops_formed.Tie as tie

@@ -2,8 +2,8 @@ use Prim.Native.Nat.{ℕ, _-_, min}
 use mathlib.Core.Path.{sym, ap, _∙_}
 use mathlib.Core.List.{List}
 use lib.Seq.{sets}
-use Rattle.record.specs.View.{numbersFrom, zeros}
-use Rattle.record.proofs.Rows.{shift-none, shift-parts}
+use Rattle.record.specs.View.{shifted, zeros}
+use Rattle.record.proofs.Rows.{shifted-none, shift-parts}
 use borrow.Author.Needs.{needs}
 use Rattle.record.proofs.shift.Statement.{statement}
 use Rattle.record.proofs.shift.Tie as tie
@@ -16,16 +16,13 @@ use Rattle.record.proofs.move_down.Reads as move-down-reads
 
 returns : tie.Need-returns
 returns c = let a = c .before .before .args in
-    shift-none (a .row .now) (a .m) ∙ ap (λ (x : ℕ). sets (a .row .now) 0 (numbersFrom (a .row .now) x (a .m))) (sym (c .if1 .taken))
+    shifted-none (a .row .now) (a .m) ∙ ap (λ (x : ℕ). shifted (a .row .now) x (a .m)) (sym (c .if1 .taken))
 
 least-requires : tie.Need-least-requires
 least-requires c κs = search needs
 
 less-requires : tie.Need-less-requires
 less-requires c κs = search needs
-
-least-requires-2 : tie.Need-least-requires-2
-least-requires-2 c κs = search needs
 
 move-down-requires : tie.Need-move-down-requires
 move-down-requires c κs = search needs
@@ -37,11 +34,11 @@ same-length : tie.Need-same-length
 same-length c = search needs
 
 returns-2 : tie.Need-returns-2
-returns-2 c = let a = c .before .before .before .before .before .before .before .before .before .before .before .before .before .args in
-    let stop = c .before .before .before .before .before .before .before .before .before .before .least in
-    let n = c .before .before .before .before .before .before .before .before .least2 in
+returns-2 c = let a = c .before .before .before .before .before .before .before .before .before .before .before .before .args in
+    let stop = c .before .before .before .before .before .before .before .before .before .least in
+    let n = c .before .before .before .before .before .before .before .before .less in
     c .before .before .blank .ensures ∙ ap (λ (x : List ℕ). sets x (n .result) (zeros (stop .result - n .result))) (c .before .before .before .before .before .before .move-down .ensures)
-    ∙ shift-parts (a .row .now) (a .k) (a .m) (n .result) (stop .result) (stop .ensures) (n .ensures ∙ ap (λ (x : ℕ). min x (stop .result)) (c .before .before .before .before .before .before .before .before .before .less .ensures))
+    ∙ shift-parts (a .row .now) (a .k) (a .m) (n .result) (stop .result) (stop .ensures) (n .ensures)
 
 pub shift-spec : {M : Type 1} → statement M
 shift-spec =
@@ -50,7 +47,6 @@ shift-spec =
     returns
     least-requires
     less-requires
-    least-requires-2
     move-down-requires
     blank-requires
     same-length

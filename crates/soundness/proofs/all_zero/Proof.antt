@@ -10,13 +10,13 @@ use Rattle.soundness.proofs.all_zero.Statement.{statement}
 use Rattle.soundness.proofs.all_zero.Tie as tie
 use Rattle.soundness.proofs.all_zero.Reads as reads
 use Rattle.soundness.proofs.all_zero.Lts as lts
-use Rattle.soundness.proofs.larger.Reads as larger-reads
+use Rattle.soundness.proofs.either.Reads as either-reads
 
 abbrev Inv-loop : tie.InvT-loop
-Inv-loop row from to most₀ i₀ most i = (from ≤ i) × (i ≤ to) × (isZero most ≡ every isZero (numbersFrom row from (i - from)))
+Inv-loop row from to all₀ i₀ all i = (from ≤ i) × (i ≤ to) × (isZero all ≡ every isZero (numbersFrom row from (i - from)))
 
 abbrev μ-loop : tie.MeasureT-loop
-μ-loop row from to most₀ i₀ most i = to - i
+μ-loop row from to all₀ i₀ all i = to - i
 
 loop-holds : tie.Need-loop-holds Inv-loop μ-loop
 unfolding numbersFrom
@@ -30,8 +30,8 @@ mul-w c = search needs
 shared-slice-read-w : tie.Need-shared-slice-read-w Inv-loop μ-loop
 shared-slice-read-w c = search needs
 
-larger-requires : tie.Need-larger-requires Inv-loop μ-loop
-larger-requires c κs = search needs
+either-requires : tie.Need-either-requires Inv-loop μ-loop
+either-requires c κs = search needs
 
 add-i : tie.Need-add-i Inv-loop μ-loop
 add-i c = search needs
@@ -42,7 +42,7 @@ loop-less c = search needs
 loop-again : tie.Need-loop-again Inv-loop μ-loop
 loop-again c = let l = c .before .before .before .loop in
     let a = c .before .before .before .before .before .args in
-    (omega arith, omega arith, ap isZero (c .larger .ensures) ∙ zeros-turn (a .row .now) (a .from) (l .i) (l .most) _ (l .inv .0) refl (l .inv .2))
+    (omega arith, omega arith, zeros-turn (a .row .now) (a .from) (l .i) (l .all) _ (c .either .result) (l .inv .0) refl (l .inv .2) (c .either .ensures))
 
 returns : tie.Need-returns Inv-loop μ-loop
 returns c = let l = c .before .loop in
@@ -59,7 +59,7 @@ all-zero-spec =
     loop-holds
     mul-w
     shared-slice-read-w
-    larger-requires
+    either-requires
     add-i
     loop-less
     loop-again

@@ -67,10 +67,8 @@ same-length-4 c = c .before .before .before .before .before .before .before .bef
 returns : tie.Need-returns
 returns c = let a = c .before .before .before .before .before .before .before .before .before .before .before .before .before .before .before .before .before .before .before .before .before .before .before .before .before .before .before .before .args in
     let p = c .before .before .before .before .before .before .before .before .before .before .before .before .before .before .before .before .before .before .before .before .before .before .before .before .before .before .before .before .pre in
-    let gone = c .requeues .ensures ∙ ap {B = Course} requeuedAll (c .before .before .before .before .before .before .leaves .ensures) in (
-      subst (λ (d : Course). d .first + d .counts .uncommitted + d .counts .waiting ≤ 64) (sym gone) (omega (arith, p .0 .live, p .1)),
-      (aborted (a .live .now) (a .runs .now) (a .undo .now) (c .before .before .before .raise-attempts .last .0) (c .before .before .before .before .before .before .before .before .before .before .before .before .before .before .before .shift .last .0) (c .before .before .before .before .before .before .before .before .before .shift2 .last .0) (a .cells .now) (c .before .before .before .before .before .before .before .before .before .before .before .before .before .before .before .before .before .before .before .before .before .undo .last .0) (a .c) _ (p .0) (c .before .before .before .before .before .before .before .before .before .before .before .before .before .before .before .before .before .before .before .before .before .undo .ensures) (c .before .before .before .before .before .before .before .before .before .before .before .before .before .before .before .shift .ensures) (c .before .before .before .before .before .before .before .before .before .shift2 .ensures) (c .before .before .before .raise-attempts .ensures ∙ ap (λ (x : Course). raisedRows (a .live .now) (liveWidth * x .first) (x .counts .uncommitted)) (c .before .before .before .before .before .before .leaves .ensures)) gone, kept-at (a .c) _ _ gone (refl, refl)),
-    )
+    let gone = c .requeues .ensures ∙ ap {B = Course} requeuedAll (c .before .before .before .before .before .before .leaves .ensures) in
+    (aborted (a .live .now) (a .runs .now) (a .undo .now) (c .before .before .before .raise-attempts .last .0) (c .before .before .before .before .before .before .before .before .before .before .before .before .before .before .before .shift .last .0) (c .before .before .before .before .before .before .before .before .before .shift2 .last .0) (a .cells .now) (c .before .before .before .before .before .before .before .before .before .before .before .before .before .before .before .before .before .before .before .before .before .undo .last .0) (a .c) _ (p .0) (c .before .before .before .before .before .before .before .before .before .before .before .before .before .before .before .before .before .before .before .before .before .undo .ensures) (c .before .before .before .before .before .before .before .before .before .before .before .before .before .before .before .shift .ensures) (c .before .before .before .before .before .before .before .before .before .shift2 .ensures) (c .before .before .before .raise-attempts .ensures ∙ ap (λ (x : Course). raisedRows (a .live .now) (liveWidth * x .first) (x .counts .uncommitted)) (c .before .before .before .before .before .before .leaves .ensures)) gone, kept-at (a .c) _ _ gone (refl, refl, omega (arith, p .1)))
 
 pub abort-spec : {M : Type 1} → statement M
 abort-spec =

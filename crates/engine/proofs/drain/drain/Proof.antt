@@ -22,7 +22,7 @@ abbrev μ-loop : tie.MeasureT-loop
 μ-loop σ live runs₀ undo₀ cells₀ room₀ c₀ runs undo cells room c = c .counts .waiting
 
 loop-holds : tie.Need-loop-holds Inv-loop μ-loop
-loop-holds c = (c .before .before .before .before .before .pre, refl, refl, refl, refl, midst-start (c .before .before .before .before .before .args .scheme) (c .before .before .before .before .before .args .live .now) (c .before .before .before .before .before .args .runs .now) (c .before .before .before .before .before .args .undo .now) (c .before .before .before .before .before .args .room .now) (c .before .before .before .before .before .args .cells .now) (c .before .before .before .before .before .args .from), (refl, refl))
+loop-holds c = (c .before .before .before .before .before .pre, refl, refl, refl, refl, midst-start (c .before .before .before .before .before .args .scheme) (c .before .before .before .before .before .args .live .now) (c .before .before .before .before .before .args .runs .now) (c .before .before .before .before .before .args .undo .now) (c .before .before .before .before .before .args .room .now) (c .before .before .before .before .before .args .cells .now) (c .before .before .before .before .before .args .from), (refl, refl, refl))
 
 may-take-requires : tie.Need-may-take-requires Inv-loop μ-loop
 may-take-requires c κs = search needs

@@ -1,11 +1,11 @@
 use Rattle.model.specs.Operations.{multi}
 use Rattle.rows.specs.declared.Placement.{Placement}
-use Rattle.rows.specs.Rows.{oneRows}
+use Rattle.rows.specs.Rows.{noTrial, nearRows, oneRows}
 use Rattle.record.specs.Widths.{liveWidth}
 use mathlib.Core.Path.{refl}
 use Prim.Native.Nat.{ℕ, _+_, _*_, _≤_, _<_}
 use mathlib.Core.Path.{sym, ap, _∙_, subst}
-use mathlib.Core.Bool.{not}
+use mathlib.Core.Bool.{Bool, not}
 use mathlib.Core.List.{List}
 use lib.Seq.{sets}
 use Rattle.record.specs.View.{numbersFrom}
@@ -97,7 +97,7 @@ returns c = let p = c .before .before .before .before .before .before .before .b
       (
         s .1,
         (
-          λ gone us w ws sent room₀ wk ct top sd tk.
+          λ gone us w ws sent came wk ct top sd tk.
               take-first-left (a .live .now) (a .runs .now) (a .undo .now) (a .room .now) (a .cells .now) (a .c) (c .before .before .before .before .before .before .before .before .before .before .before .before .before .before .before .before .before .before .before .before .before .before .before .trial-at .result) (c .before .before .before .before .before .before .before .before .before .before .before .before .before .before .before .before .before .before .before .before .before .before .fragment-at .result) (r .result) (multi (c .before .before .before .before .before .before .before .before .before .before .before .before .before .before .before .before .before .before .before .before .before .before .fragment-at .result)) (c .before .before .before .before .before .before .before .before .before .is-last .result)
               (oneRows (a .live .now) (liveWidth * a .c .first) (a .c .counts .uncommitted) (c .before .before .before .before .before .before .before .before .before .before .before .before .before .before .before .before .before .before .before .before .before .before .fragment-at .result .coordinator)) (c .before .before .before .before .before .before .before .before .before .before .before .before .before .before .before .before .place-ran .result .sent) (c .before .before .before .before .before .before .before .before .before .before .before .before .before .before .before .before .place-ran .result .joins) (c .before .before .before .before .before .before .before .before .before .before .before .before .before .before .before .before .place-ran .result .near) answers (j .last .1 .0) (j .last .1 .1 .0) (c .before .before .before .before .before .before .before .before .before .before .before .before .put-answer-if .last .1 .0) (r .last .0) (j .result)
               (record {
@@ -108,7 +108,7 @@ returns c = let p = c .before .before .before .before .before .before .before .b
                 multi = refl;
                 last = c .before .before .before .before .before .before .before .before .before .is-last .ensures;
                 is-one = refl;
-                is-near = ap (λ (x : Placement). x .near) place;
+                is-near = λ h. ap (λ (x : Placement). x .near) place ∙ ap (λ (b : Bool). pick b (nearRows noTrial (a .live .now) (liveWidth * a .c .first) (a .c .counts .uncommitted)) noTrial) (sym (ap (λ (x : Placement). x .sent) place) ∙ h);
                 is-ans = ap (λ (x : Placement). x .sent) place;
                 is-joins = ap (λ (x : Placement). x .joins) place;
                 count = refl;
@@ -116,8 +116,8 @@ returns c = let p = c .before .before .before .before .before .before .before .b
                 is-runs = j .ensures .1 .0 ∙ ap {B = List ℕ} (λ (x : Course). pick (c .before .before .before .before .before .before .before .before .before .before .before .before .before .before .before .before .place-ran .result .joins) (sets (a .runs .now) (runWidth * x .counts .uncommitted) (begunRow (not (c .before .before .before .before .before .before .before .before .before .before .before .before .before .before .before .before .place-ran .result .sent)) (c .before .before .before .before .before .before .before .before .before .is-last .result) (r .result))) (a .runs .now)) (c .before .before .before .before .before .before .sends .ensures);
                 is-undo = j .ensures .1 .1 ∙ ap {B = List ℕ} (λ (x : Course). pick (c .before .before .before .before .before .before .before .before .before .before .before .before .before .before .before .before .place-ran .result .joins) (sets (a .undo .now) (2 * x .entries) (numbersFrom (r .result .undo) 0 (2 * r .result .entries))) (a .undo .now)) (c .before .before .before .before .before .before .sends .ensures);
                 counts = moved;
-              }) (p .0) gone us w ws sent room₀ wk ct top sd tk,
-          kept-taking (a .c) (j .result) (r .result) answers (c .before .before .before .before .before .before .before .before .before .before .before .before .before .before .before .before .place-ran .result .joins) moved,
+              }) (p .0) gone us w ws sent came wk ct top sd tk,
+          kept-taking (a .c) (j .result) (r .result) answers (c .before .before .before .before .before .before .before .before .before .before .before .before .before .before .before .before .place-ran .result .joins) (p .1 .0) moved,
         ),
       ),
     )

@@ -71,12 +71,9 @@ returns c =
     let p = c .before .before .before .before .before .before .before .before .before .before .before .before .before .before .before .before .before .before .before .before .before .before .before .before .before .before .before .before .pre in
     let r = c .before .before .before .before .before .before .before .before .before .before .before .before .before .before .before .before .before .before .continue-fragment in
     let n = c .before .before .before .before .before .before .before .before .before .before .before .before .before .before .note-entries in (
-      omega (arith, p .0 .live),
-      (
-        continued (a .live .now) (a .runs .now) (a .undo .now) (a .room .now) (c .before .before .before .before .before .before .before .before .before .before .run-again .last .0) (n .last .0) (c .before .before .before .before .put-answer .last .0) (a .cells .now) (r .last .0) (a .c) _ (a .f) (c .before .before .before .before .before .before .before .before .before .before .before .before .before .before .before .before .before .before .before .before .before .trial-at .result) (c .before .before .before .before .before .before .before .no-trial .result) (n .result) (r .result)
-            (p .0) (p .1) (c .before .before .before .before .before .before .before .before .before .before .before .before .before .before .before .before .before .before .before .before .before .trial-at .ensures) (c .before .before .before .before .before .before .before .no-trial .ensures) (r .ensures .0) (r .ensures .1) (n .ensures .0) (n .ensures .1) (c .before .before .before .before .before .before .before .before .before .before .run-again .ensures) (c .before .before .before .before .put-answer .ensures) refl,
-        (refl, refl),
-      ),
+      continued (a .live .now) (a .runs .now) (a .undo .now) (a .room .now) (c .before .before .before .before .before .before .before .before .before .before .run-again .last .0) (n .last .0) (c .before .before .before .before .put-answer .last .0) (a .cells .now) (r .last .0) (a .c) _ (a .f) (c .before .before .before .before .before .before .before .before .before .before .before .before .before .before .before .before .before .before .before .before .before .trial-at .result) (c .before .before .before .before .before .before .before .no-trial .result) (n .result) (r .result)
+          (p .0) (p .1) (c .before .before .before .before .before .before .before .before .before .before .before .before .before .before .before .before .before .before .before .before .before .trial-at .ensures) (c .before .before .before .before .before .before .before .no-trial .ensures) (r .ensures .0) (r .ensures .1) (n .ensures .0) (n .ensures .1) (c .before .before .before .before .before .before .before .before .before .before .run-again .ensures) (c .before .before .before .before .put-answer .ensures) refl,
+      (refl, refl, refl),
     )
 
 pub continue-front-spec : {M : Type 1} → statement M

@@ -1,14 +1,14 @@
 use mathlib.Core.Bool.{true, false}
 use mathlib.Core.Path.{refl}
 use borrow.Author.Tests.{eq-eqb, ne-eqb}
-use Rattle.boundary.proofs.Events.{event-by}
+use Rattle.record.proofs.Events.{event-by}
 use borrow.Author.Needs.{needs}
-use Rattle.boundary.proofs.event_of.Statement.{statement}
-use Rattle.boundary.proofs.event_of.Tie as tie
-use Rattle.boundary.proofs.event_of.Reads as reads
-use Rattle.boundary.proofs.event_of.Lts as lts
+use Rattle.record.proofs.event_of.Statement.{statement}
+use Rattle.record.proofs.event_of.Tie as tie
+use Rattle.record.proofs.event_of.Reads as reads
+use Rattle.record.proofs.event_of.Lts as lts
 use Rattle.operations.proofs.number_at.Reads as number-at-reads
 use Rattle.record.proofs.fragment_at.Reads as fragment-at-reads
 
 fragment-at-requires : tie.Need-fragment-at-requires
 fragment-at-requires c κs = search needs
