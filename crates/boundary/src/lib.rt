@@ -1,5 +1,7 @@
 // The library for C and Rust: the engine over a lent record, lent cells, the words of an event and a lent answer room. What crosses is numbers,
 // slices and references, nothing by value; whatever the words hold, each function ends and has said what it did.
+#![tactic(auto)]
+
 ghost use Rattle.std.specs.Prelude.{◌≡◌};
 ghost use Rattle.model.specs.Limits.{most_cells, least_room, event_words, answer_words};
 ghost use Rattle.model.specs.declared.Scheme.TheVariants.{Speculation, Blocking};

@@ -1,5 +1,7 @@
 // Calls with the record by value: `call_by` a scheme, and `call` by speculation. What holds of sequences of them, on records, words and rooms, is
 // said in specs/: demand 3, and what both schemes have in common.
+#![tactic(auto)]
+
 ghost use Rattle.std.specs.Prelude.{◌≡◌};
 ghost use Rattle.model.specs.declared.Scheme.TheVariants.{Speculation};
 ghost use Rattle.engine.specs.Called.{called, cells_after, room_after};

@@ -1,5 +1,7 @@
 // The depot cases that no trace reaches: calls on records that no run leaves. Each prints its number as `e case number`, with the answers as
 // `a` lines. A case is the record of `base` with one word changed, or two.
+#![tactic(auto)]
+
 ghost use Rattle.std.specs.Prelude.{◌≤◌, ◌<◌};
 
 use libc::STDOUT_FILENO;
@@ -7,7 +9,7 @@ use model::{Event, Fragment, Op};
 use record::{Counts, Record};
 
 // What a case changes in the record of `base`: a word at a place, and one more. Place 2484 is none.
-#[derive(Drop)]
+#[derive(Clone, Copy)]
 struct Change {
     place: u32,
     word: u32,

@@ -7,7 +7,7 @@ use record::Counts;
 
 // Where the transactions of a call stand in the live row, and how far it has come: the counts as they are now, how many are gone in this call
 // and stand before the others still, the undo entries, the answers sent.
-#[derive(Drop)]
+#[derive(Clone, Copy)]
 pub(crate) struct Course {
     pub counts: Counts,
     pub first: u32,

@@ -1,4 +1,6 @@
 // The engine of one partition: a call by a scheme on a record whose rows are lent, `call_lent`.
+#![tactic(auto)]
+
 ghost use Rattle.record.specs.Widths.{live_width};
 ghost use Rattle.std.specs.Prelude.{◌≡◌, ℕ, ◌+◌, ◌*◌, ◌≤◌, ◌&&◌, [], eqb, length, get_or};
 ghost use Rattle.std.proofs.lemmas.List.Edits.{sets};
@@ -33,7 +35,7 @@ pub type Runs = [u32; record::RUNS_LENGTH];
 pub type Undone = [u32; record::UNDO_LENGTH];
 
 // What a call returns: the number, the count of answers, and the next record.
-#[derive(Drop)]
+#[derive(Clone, Copy)]
 pub struct Called {
     pub number: u32,
     pub answers: u32,
@@ -41,7 +43,7 @@ pub struct Called {
 }
 
 // What a call on lent rows returns: the number, the count of answers, and the next record's counts.
-#[derive(Drop)]
+#[derive(Clone, Copy)]
 pub struct LentCall {
     pub number: u32,
     pub answers: u32,

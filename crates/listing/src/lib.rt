@@ -1,6 +1,8 @@
 // What the trace program of document 01 prints for the word of its command and for the bytes that it read: all of its text, put into a lent
 // buffer part by part, since a text may be longer than a buffer. The first word of the command names the scheme, speculation without a word;
 // one that names no scheme gets `bad scheme` alone.
+#![tactic(auto)]
+
 ghost use Rattle.std.specs.Prelude.{◌+◌, ◌*◌, ◌<◌, ◌≤◌, ◌≡◌, length, take, drop, replicate};
 ghost use Rattle.std.proofs.lemmas.List.Edits.{sets};
 ghost use Rattle.trace.specs.Text.{line_e, line_a, line_c, bad_trace, bad_scheme};
@@ -13,7 +15,7 @@ use record::Record;
 use trace::Shape;
 
 // What the command's word chooses.
-#[derive(Drop)]
+#[derive(Clone, Copy)]
 pub(crate) enum Choice {
     By(Scheme),
     Unknown,

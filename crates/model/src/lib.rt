@@ -1,4 +1,5 @@
 // The values that document 01 speaks of, as every crate passes them, and its limits. What they mean is in specs/; nothing here runs.
+#![tactic(auto)]
 
 // "each a whole number from 0 to 4,294,967,295 (called TOP)"
 pub const TOP: u32 = 4294967295;
@@ -24,7 +25,7 @@ pub const ANSWER_WORDS: usize = 16;
 pub const EVENT_WORDS: u32 = 29;
 
 // "An operation has a code, a cell and an amount v of 0 to TOP."
-#[derive(Drop)]
+#[derive(Clone, Copy)]
 pub struct Op {
     pub code: u32,
     pub cell: u32,
@@ -32,7 +33,7 @@ pub struct Op {
 }
 
 // "it is stored as a fixed row of eight with a count, unused places all zero"; flags are 1 multi + 2 last.
-#[derive(Drop)]
+#[derive(Clone, Copy)]
 pub struct Fragment {
     pub flags: u32,
     pub coordinator: u32,
@@ -41,7 +42,7 @@ pub struct Fragment {
 }
 
 // "kind (1 fragment, 2 commit, 3 abort), number, flags (1 multi + 2 last), coordinator, operation count, eight times code, cell, amount": any words at all.
-#[derive(Drop)]
+#[derive(Clone, Copy)]
 pub struct Event {
     pub kind: u32,
     pub number: u32,
@@ -50,14 +51,14 @@ pub struct Event {
 
 // What one operation does: "Each operation that does not fail gives one number: the cell's content after it." By 02, L4: "A failing operation
 // now gives the number it found".
-#[derive(Drop)]
+#[derive(Clone, Copy)]
 pub enum Did {
     Number(u32),
     Fails(u32),
 }
 
 // "Undo entries (cell, old number)"
-#[derive(Drop)]
+#[derive(Clone, Copy)]
 pub struct Undo {
     pub cell: u32,
     pub old: u32,
@@ -65,7 +66,7 @@ pub struct Undo {
 
 // Which scheme a call runs by: 01's steps, which speculate behind a finished front, or 02's L5, which runs nothing while anything is
 // uncommitted.
-#[derive(Drop)]
+#[derive(Clone, Copy)]
 pub enum Scheme {
     Speculation,
     Blocking,

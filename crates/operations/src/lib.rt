@@ -1,5 +1,7 @@
 // The operations of document 01 over lent cells: the table of codes, one operation, a fragment's run with its undo entries, undoing, and the
 // checks that read the table. Every function is total: a cell that is not there holds 0 and keeps nothing, as the definitions say.
+#![tactic(auto)]
+
 ghost use Rattle.std.specs.Prelude.{◌≡◌, [], ◌+◌, ◌*◌, ◌≤◌, ◌<◌, ◌^◌, min, length, get_or, set, take, drop};
 ghost use Rattle.model.specs.Operations.{known, uses, writes, may_fail, meaning, multi, last, pick};
 ghost use Rattle.model.specs.Steps.{undone, run};
@@ -135,7 +137,7 @@ pub fn put_at(s: &mut [u32], i: usize, y: u32)
 }
 
 // What an operation did, and the content that it found.
-#[derive(Drop)]
+#[derive(Clone, Copy)]
 pub struct Operated {
     pub did: Did,
     pub old: u32,
@@ -250,7 +252,7 @@ pub fn undo(cells: &mut [u32], entries: &[u32], count: u32)
 
 // What a fragment's run gives: the place of failure or 0, the numbers with their count, its own undo entries with their count; unused
 // places are zero. Where it failed, the numbers are the one that the failing operation found.
-#[derive(Drop)]
+#[derive(Clone, Copy)]
 pub struct Ran {
     pub place: u32,
     pub count: u32,
@@ -317,7 +319,7 @@ pub fn continue_fragment(cells: &mut [u32], f: Fragment, earlier: &[u32], count:
 }
 
 // What a run tells: the place of failure or 0, and the numbers with their count; unused places are zero.
-#[derive(Drop)]
+#[derive(Clone, Copy)]
 pub struct Told {
     pub place: u32,
     pub count: u32,

@@ -1,4 +1,6 @@
 // The engine's record by value, every field a 32-bit number, what is read off its rows and laid into them, and starting.
+#![tactic(auto)]
+
 ghost use Rattle.record.specs.Widths.{ops_end, live_width};
 ghost use Rattle.std.specs.Prelude.{◌≡◌, ◌+◌, ◌*◌, ◌-◌, ◌<◌, ◌≤◌, min, length, get_or};
 ghost use Rattle.std.proofs.lemmas.List.Edits.{sets};
@@ -36,7 +38,7 @@ pub const UNDO_LENGTH: usize = 368;
 
 // The record's counts, by value: "cell count, largest number accepted", and how many of the live ones are uncommitted and waiting.
 #[repr(C)]
-#[derive(Drop)]
+#[derive(Clone, Copy)]
 pub struct Counts {
     pub cells: u32,
     pub largest: u32,
@@ -140,7 +142,7 @@ impl Counts {
 // number order, the uncommitted ones first; beside each of those a run; the undo entries of all of them in queue order, oldest first. Any words are a
 // record: which of them are sound is asked by each call.
 #[repr(C)]
-#[derive(Drop)]
+#[derive(Clone, Copy)]
 pub struct Record {
     pub counts: Counts,
     pub live: [u32; LIVE_LENGTH],
@@ -149,7 +151,7 @@ pub struct Record {
 }
 
 // What starting returns: the number and the record.
-#[derive(Drop)]
+#[derive(Clone, Copy)]
 pub struct Fresh {
     pub number: u32,
     pub next: Record,

@@ -1,4 +1,6 @@
 // Document 01's table of refusals, read off a record's words: rows 2 to 14, and behind soundness, row 1, all of it. Every function is total: no word has to be sound.
+#![tactic(auto)]
+
 ghost use Rattle.std.specs.Prelude.{◌≡◌, ◌&&◌, ◌+◌, leb};
 ghost use Rattle.model.specs.Limits.{most_live};
 ghost use Rattle.model.specs.Transactions.{finished};

@@ -1,6 +1,8 @@
 // The trace program of document 01: reads one trace from standard input and writes the text that `listing` makes of the first word of its
 // command and of what it read. No contract can say what is read or written: what the text is, for every word and every input, is the contract
 // of `listing::put_listing`.
+#![tactic(auto)]
+
 ghost use Rattle.io.specs.Counts.{IsPrefixLen};
 
 use libc::{STDIN_FILENO, STDOUT_FILENO};

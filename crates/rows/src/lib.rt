@@ -1,4 +1,6 @@
 // The words of an answer and of a run, and what the steps read off rows. Each public function answers for every input.
+#![tactic(auto)]
+
 ghost use Rattle.std.specs.Prelude.{◌≡◌, ◌*◌, ◌≤◌, min, []};
 ghost use Rattle.record.specs.Widths.{run_width};
 ghost use Rattle.model.specs.Steps.{run};
@@ -15,7 +17,7 @@ use operations::{Ran, Told};
 pub const ANSWER_WIDTH: u32 = 16;
 
 // A transaction in one of its attempts: an answer names its own and the one that it depends on so (02, L2). Of none both numbers are 0.
-#[derive(Drop)]
+#[derive(Clone, Copy)]
 pub struct Trial {
     pub number: u32,
     pub attempt: u32,
@@ -250,7 +252,7 @@ pub(crate) fn is_joining(uncommitted: u32, multi: bool) -> bool
 
 // Where the drain places one that ran: is it answered now, does it join the uncommitted ones, and the multi that its answer depends on, none where it is
 // held.
-#[derive(Drop)]
+#[derive(Clone, Copy)]
 pub struct Placement {
     pub sent: bool,
     pub joins: bool,

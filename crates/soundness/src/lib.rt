@@ -1,5 +1,7 @@
 // Refusal 1 of document 01: whether a record of any words is sound. Each walk over a row of words asks what it can of one row at a time; every
 // function is total, and a read past a row's end gives 0. A stored fragment is asked as 4 and 5 ask an event's, so what asks them is public.
+#![tactic(auto)]
+
 ghost use Rattle.record.specs.Widths.{ops_end};
 ghost use Rattle.std.specs.Prelude.{◌≡◌, ◌&&◌, ◌+◌, ◌*◌, ◌-◌, ◌≤◌, length};
 ghost use Rattle.model.specs.Refusals.{every, formed, blank, storable, sound};

@@ -1,4 +1,6 @@
 // Leaves the runs of a sound record, with anything in the places that they do not use, canonical: zero there.
+#![tactic(auto)]
+
 ghost use Rattle.record.specs.Widths.{runs_length};
 ghost use Rattle.std.specs.Prelude.{◌≡◌, ℕ, ◌≤◌};
 ghost use Rattle.model.specs.Operations.{pick};

@@ -1,5 +1,7 @@
 // The trace of document 01: reading one from bytes, and the lines of text that its run prints, written into a lent buffer. Every public
 // function is total: a byte that is not there is 0, and what would stand past a slice's end is not kept.
+#![tactic(auto)]
+
 ghost use Rattle.std.specs.Prelude.{◌≡◌, ◌+◌, ◌*◌, ◌<◌, ◌≤◌, length, get_or, set};
 ghost use Rattle.std.proofs.lemmas.List.Edits.{sets};
 ghost use Rattle.trace.specs.Format.{word_at, words_from, op_from, event_at, shape_of};
@@ -8,7 +10,7 @@ ghost use Rattle.trace.specs.Text.{decimal, fields_from, line_from, line_e, told
 use model::{Event, Fragment, Op};
 
 // What bytes are: a trace with its counts and the word at which its events start, or none.
-#[derive(Drop)]
+#[derive(Clone, Copy)]
 pub enum Shape {
     Bad,
     Trace { cells: u32, events: u32, first: u32 },
