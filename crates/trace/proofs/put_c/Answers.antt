@@ -1,0 +1,6 @@
+use Rattle.trace.specs.Text.{line_c}
+use Rattle.trace.proofs.put_c.Goals as goal
+
+pub returns : goal.returns
+unfolding line_c
+returns c = record { value = c.put_line.ensures.value; buffer_after = c.put_line.ensures.buffer_after }
