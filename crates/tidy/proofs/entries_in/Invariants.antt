@@ -1,0 +1,11 @@
+use Prim.Native.Nat.{◌+◌, ◌*◌, ◌-◌, ◌≤◌}
+use mathlib.Core.Path.{◌≡◌}
+use Rattle.tidy.specs.Runs.{entries_from}
+use Rattle.record.specs.Widths.{run_width}
+use Rattle.tidy.proofs.entries_in.Given as goal
+
+abbrev pub invariant-loop-i : goal.invariant-loop-i
+invariant-loop-i l = (l.i ≤ l.n) × (l.sum ≤ 4294967295 * l.i) × (l.sum + entries_from l.runs (run_width * l.i) (l.n - l.i) ≡ entries_from l.runs 0 l.n)
+
+abbrev pub decreases-loop-i : goal.decreases-loop-i
+decreases-loop-i l = l.n - l.i
