@@ -1,5 +1,3 @@
 pub mod Events
 pub mod Demanding
 pub mod Unique
-pub mod Apart
-pub mod Walk

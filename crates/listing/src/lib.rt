@@ -249,10 +249,10 @@ pub(crate) fn scheme_of(word: &[u8]) -> Choice
     if word.len() == 0 {
         return Choice::By(Scheme::Speculation);
     }
-    if check::same(word, b"speculation") {
+    if word == b"speculation".as_slice() {
         return Choice::By(Scheme::Speculation);
     }
-    if check::same(word, b"blocking") {
+    if word == b"blocking".as_slice() {
         return Choice::By(Scheme::Blocking);
     }
     Choice::Unknown

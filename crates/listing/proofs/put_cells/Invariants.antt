@@ -1,0 +1,14 @@
+use Prim.Native.Nat.{ℕ, ◌+◌, ◌*◌, ◌-◌, ◌≤◌}
+use mathlib.Core.Path.{◌≡◌}
+use lib.ListN.{length, get_or}
+use Rattle.trace.specs.Text.{line_c}
+use Rattle.listing.specs.Printed.{lines_from, together}
+use Rattle.listing.proofs.Texts.{Left}
+use Rattle.listing.proofs.put_cells.Given as goal
+
+abbrev pub invariant-loop-i : goal.invariant-loop-i
+invariant-loop-i l = (l.i ≤ l.count) × (l.p ≤ l.at + 24 * l.i) × (length l.buffer ≡ length l.initial.buffer)
+    × Left l.from l.buffer l.initial.buffer l.p l.at (together (lines_from (λ (j : ℕ). line_c j (get_or l.cells j 0)) l.i (l.count - l.i))) (together (lines_from (λ (j : ℕ). line_c j (get_or l.cells j 0)) 0 l.count))
+
+abbrev pub decreases-loop-i : goal.decreases-loop-i
+decreases-loop-i l = l.count - l.i
