@@ -1,7 +1,6 @@
 -- What starting and a call of the library leave in the record that was lent to them, as the engine has it by value.
 use Rattle.std.specs.Prelude.{ℕ, ◌≡◌}
 use Rattle.record.specs.declared.Record.{Record}
-use Rattle.record.specs.declared.Fresh.{Fresh}
 use Rattle.record.specs.Start.{fresh_of}
 use Rattle.engine.specs.declared.Called.{Called}
 

@@ -1,11 +1,11 @@
 -- Carried from the list engine to records by the same road as demand 3 (Carrying): request L5, and what is known of the answers of one call.
-use Prim.Native.Nat.{ℕ, zero, suc, ◌+◌, ◌≤◌, ◌<◌}
+use Prim.Native.Nat.{ℕ, ◌+◌, ◌≤◌, ◌<◌}
 use native.Mathlib.Omega.{arith}
 use mathlib.Core.Path.{◌≡◌, refl, sym, ap, ◌∙◌, subst, subst₂}
 use mathlib.Core.List.{List, [], ◌∷◌}
-use lib.ListN.{length, get_or}
+use lib.ListN.{length}
 use Rattle.model.specs.Operations.{Cells}
-use Rattle.model.specs.Transactions.{Uncommitted, Waiting, Engine, Answer, Rising, numbers}
+use Rattle.model.specs.Transactions.{Uncommitted, Waiting, Engine, Rising, numbers}
 use Rattle.model.specs.Refusals.{Call, step}
 use Rattle.model.specs.Demand.{Run, onward, runs, fresh, Lends, settled_of, settled_in}
 use Rattle.model.specs.Schemes.{Alike, Twins, Idle, of_singles}

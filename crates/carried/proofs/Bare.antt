@@ -2,15 +2,15 @@
 use Prim.Native.Nat.{ℕ, zero, suc, ◌+◌, ◌*◌, ◌≤◌}
 use native.Mathlib.Omega.{arith}
 use borrow.Author.Tests.{leb-false}
-use mathlib.Core.Path.{◌≡◌, refl, sym, ap, ◌∙◌, subst}
+use mathlib.Core.Path.{◌≡◌, refl, sym, ap, ◌∙◌}
 use mathlib.Core.Bool.{Bool, true, false, ◌&&◌}
 use mathlib.Core.List.{List, [], ◌∷◌, map}
 use lib.Dec.{eqb, ltb, leb}
 use lib.ListN.{length, length-append, length-map}
 use Rattle.model.specs.Limits.{most_live}
 use Rattle.model.specs.Operations.{Cells, pick}
-use Rattle.model.specs.Transactions.{Uncommitted, Waiting, Engine, undo_list}
-use Rattle.model.specs.Refusals.{Call, sound, refusal, respond, step, start}
+use Rattle.model.specs.Transactions.{Uncommitted, Waiting, undo_list}
+use Rattle.model.specs.Refusals.{Call, sound, refusal, respond, step}
 use Rattle.model.specs.Parts.{All}
 use Rattle.model.proofs.Chain.{all_map}
 use Rattle.model.proofs.Passing.{passed}
@@ -25,7 +25,7 @@ use Rattle.record.specs.Words.{all_rows, all_runs, row_of, live_rows, cleared, p
 use Rattle.record.proofs.Rows.{cleared_padded}
 use Rattle.record.proofs.Back.{known_of, length-rows, length_runs, length-flat, pack_over_lem}
 use Rattle.record.proofs.Queues.{rows_all, entries_all, length_entries}
-use Rattle.record.proofs.Viewed.{First, view_count, view_waits, view_first, view_waiting}
+use Rattle.record.proofs.Viewed.{view_count, view_waits, view_first, view_waiting}
 use Rattle.tidy.proofs.Members.{few_uncommitted, few_entries}
 use Rattle.engine.specs.Called.{stepped, reached, next_of, called}
 use Rattle.carried.specs.Carried.{Words, AllWords, returned, RecordRun, onward_r, runs_r, started_r, Plain}

@@ -21,7 +21,7 @@ use Rattle.model.proofs.Kept.{step_keeps, start_sound, fresh_never_one}
 use Rattle.model.proofs.Demanded.{demand3, undisturbed_right}
 use Rattle.record.specs.declared.Record.{Record}
 use Rattle.record.specs.Words.{live_rows}
-use Rattle.record.specs.View.{fragment_at, waiting_of, numbers_from, member_at, uncommitted_of, view_of, view}
+use Rattle.record.specs.View.{numbers_from, view}
 use Rattle.record.proofs.Rows.{numbers_same, numbers_whole}
 use Rattle.record.proofs.Back.{known_of, view_over, view_pack}
 use Rattle.record.specs.Start.{fresh_of}

@@ -2,14 +2,14 @@
 use Prim.Native.Nat.{ℕ, suc, ◌+◌, ◌≤◌}
 use native.Mathlib.Omega.{arith}
 use mathlib.Core.Path.{◌≡◌, subst}
-use mathlib.Core.Bool.{Bool, true, false, ◌&&◌}
+use mathlib.Core.Bool.{Bool, true, false}
 use mathlib.Core.List.{List, [], ◌∷◌, ◌++◌, map}
 use lib.Dec.{eqb}
 use lib.ListN.{length, length-append, length-take}
-use Rattle.model.specs.Operations.{Cells, operate, put, multi, operations, tells}
-use Rattle.model.specs.Transactions.{Reply, Held, Sent, NoReply, Uncommitted, Waiting, Engine, Answer, answer}
-use Rattle.model.specs.Steps.{undone, noted, Ran, run_from, run, begun, again, one_coordinator, nearest, nearest_attempt, may_take, Place, placed, Queues, sending, drain, arrival, joined, continued, arrived, held_with, held_by, sent, released, settled, committed, requeued, aborted}
-use Rattle.model.specs.Refusals.{Request, Arrive, Commit, Abort, request, taken}
+use Rattle.model.specs.Operations.{Cells, operate, put, operations, tells}
+use Rattle.model.specs.Transactions.{Reply, Held, Sent, Uncommitted, Waiting, Engine, Answer, answer}
+use Rattle.model.specs.Steps.{undone, noted, Ran, run_from, run, begun, again, nearest, nearest_attempt, Place, placed, Queues, sending, drain, arrival, joined, continued, arrived, held_with, held_by, released, settled, committed, requeued, aborted}
+use Rattle.model.specs.Refusals.{Request, request, taken}
 use Rattle.model.specs.declared.Op.{Op}
 use Rattle.model.specs.declared.Fragment.{Fragment}
 use Rattle.model.specs.declared.Scheme.{Scheme}

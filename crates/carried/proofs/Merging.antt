@@ -3,9 +3,8 @@ use Prim.Native.Nat.{ℕ, ◌<◌}
 use mathlib.Core.Path.{◌≡◌, refl, sym, ap, ◌∙◌, subst}
 use mathlib.Core.List.{List, [], ◌∷◌, ◌++◌}
 use Rattle.model.specs.Operations.{Cells}
-use Rattle.model.specs.Transactions.{Answer}
 use Rattle.model.specs.Refusals.{Request, Arrive, request, Call, step}
-use Rattle.model.specs.Demand.{Run, onward, runs, fresh, settled_of, sent_in}
+use Rattle.model.specs.Demand.{Run, runs, fresh, settled_of, sent_in}
 use Rattle.model.specs.Schemes.{Idle, of_singles, replies}
 use Rattle.model.specs.Merged.{taken_by, taken_in, fragments_of, decision_of, Merged}
 use Rattle.model.specs.declared.Fragment.{Fragment}

@@ -5,7 +5,6 @@ use Rattle.model.specs.Operations.{Cells}
 use Rattle.model.specs.Refusals.{Call}
 use Rattle.model.specs.Demand.{settled_of}
 use Rattle.model.specs.Schemes.{Alike, AllAlike, of_singles}
-use Rattle.record.specs.declared.Record.{Record}
 use Rattle.carried.specs.Carried.{Words, AllWords, returned, answers_of, RecordRun, onward_r, runs_r, fresh_r, LendsR, AllLendR, settled_in_r}
 
 pub record TwinsR (cs : Cells) (calls calls' : List Call) : Type 0 where

@@ -3,9 +3,9 @@ use Prim.Native.Nat.{ℕ, ◌+◌, ◌*◌, ◌%◌, ◌≤◌}
 use native.Mathlib.Omega.{arith}
 use borrow.Author.Tests.{eqb-true, ltb-false}
 use mathlib.Core.Path.{◌≡◌, refl, sym, ap, ◌∙◌, subst}
-use mathlib.Core.Bool.{Bool, true, false, not, ◌&&◌, true≢false}
-use mathlib.Core.List.{List, [], ◌∷◌, ◌++◌}
-use lib.Dec.{eqb, ltb}
+use mathlib.Core.Bool.{Bool, true, false, ◌&&◌, true≢false}
+use mathlib.Core.List.{List, [], ◌∷◌}
+use lib.Dec.{eqb}
 use lib.ListN.{length, get_or, length-take}
 use lib.Seq.{sets}
 use Rattle.model.specs.Limits.{least_room}
@@ -13,7 +13,7 @@ use Rattle.model.specs.Operations.{Cells, pick, multi, operations}
 use Rattle.model.specs.Transactions.{Uncommitted, Waiting, Engine, Answer, answer, undo_list, filled, front}
 use Rattle.model.specs.Steps.{run, arrival, arrived, joined, Place, placed, Queues, sending}
 use Rattle.model.specs.Steps as Steps
-use Rattle.model.specs.Refusals.{Request, Arrive, refusal, request, live, new, is_front, taken, largest_after}
+use Rattle.model.specs.Refusals.{Request, refusal, request, live, new, is_front, taken, largest_after}
 use Rattle.model.specs.Parts.{Passed}
 use Rattle.model.specs.declared.Event.{Event}
 use Rattle.model.specs.declared.Fragment.{Fragment}

@@ -22,7 +22,7 @@ use Rattle.record.specs.View.{numbers_from, shifted}
 use Rattle.record.proofs.Rows.{lay_over, numbers_padded}
 use Rattle.record.proofs.Back.{length_runs, length-flat, flat_append, entries_back}
 use Rattle.engine.specs.declared.course.Course.{Course}
-use Rattle.engine.specs.Work.{Ground, runs_ground, undo_ground, Fair, Aborted, Continued, left_by, requeued_all}
+use Rattle.engine.specs.Work.{runs_ground, undo_ground, Fair, Aborted, Continued, left_by, requeued_all}
 use Rattle.rows.specs.declared.Trial.{Trial}
 use Rattle.rows.specs.Rows.{trial_at, no_trial, raised_rows, with_answer, run_row, state_word_after, again_row}
 use Rattle.rows.proofs.Rooms.{answered_room, state_word_lem}

@@ -5,13 +5,12 @@ use borrow.Author.Tests.{ne_eqb, ltb-true}
 use mathlib.Core.Path.{◌≡◌, refl, sym, ap, ◌∙◌, subst, subst₂}
 use mathlib.Core.Bool.{Bool, true, false, not, ◌||◌, true≢false}
 use mathlib.Core.List.{List, [], ◌∷◌, ◌++◌, append_assoc, append-nil, map}
-use lib.ListN.{length, get_or, length-append, length-map}
+use lib.ListN.{length, length-append, length-map}
 use lib.Seq.{sets}
 use Rattle.model.specs.Limits.{depth}
 use Rattle.model.specs.Operations.{Cells, pick, multi, last}
 use Rattle.model.specs.Transactions.{Held, Sent, Uncommitted, Waiting, Answer, answer, undo_list, filled}
 use Rattle.model.specs.Steps.{run, begun, one_coordinator, nearest, nearest_attempt, may_take, Place, placed}
-use Rattle.model.specs.Steps as Steps
 use Rattle.model.specs.declared.Fragment.{Fragment}
 use Rattle.model.specs.declared.Scheme.{Scheme}
 use Rattle.model.proofs.Taking.{may_less}

@@ -1,26 +1,26 @@
 -- The new front is answered and what may be is released behind it (02, L6): the loop over the rows, and the walk over the list.
-use Prim.Native.Nat.{ℕ, suc, ◌+◌, ◌*◌, ◌-◌, ◌%◌, ◌≤◌, ◌<◌}
+use Prim.Native.Nat.{ℕ, ◌+◌, ◌*◌, ◌≤◌, ◌<◌}
 use native.Mathlib.Omega.{arith}
-use borrow.Author.Tests.{not-false, eq-eqb, ne_eqb, eqb-true}
+use borrow.Author.Tests.{not-false, eq-eqb}
 use mathlib.Core.Path.{◌≡◌, refl, sym, ap, ◌∙◌, subst}
-use mathlib.Core.Bool.{Bool, true, false, not, true≢false}
+use mathlib.Core.Bool.{Bool, true, false, true≢false}
 use mathlib.Core.Logic.{◌⊎◌, inl, inr}
-use mathlib.Core.List.{List, [], ◌∷◌, ◌++◌, append_assoc, append-nil, map}
+use mathlib.Core.List.{List, [], ◌∷◌, ◌++◌, append_assoc, append-nil}
 use lib.Dec.{eqb}
-use lib.ListN.{length, get_or, length-append, length-map}
+use lib.ListN.{length, get_or, length-append}
 use lib.Seq.{sets}
 use Rattle.model.specs.Limits.{answer_words}
 use Rattle.model.specs.Operations.{pick, multi}
-use Rattle.model.specs.Transactions.{Uncommitted, Waiting, Answer, undo_list, front}
+use Rattle.model.specs.Transactions.{Uncommitted, Waiting, Answer, undo_list}
 use Rattle.model.specs.Steps.{held_by, sent, Place, settled}
 use Rattle.model.specs.Parts.{All, released_from}
-use Rattle.model.proofs.Chain.{all_map, all_append, all_left, all_right}
+use Rattle.model.proofs.Chain.{all_map, all_left, all_right}
 use Rattle.model.proofs.Releasing.{settled_front, from_single, from_same, from_other}
 use Rattle.operations.specs.Laid.{flat}
 use Rattle.record.specs.Words.{all_rows, row_of, live_rows, over}
 use Rattle.engine.specs.declared.course.Course.{Course}
-use Rattle.engine.specs.Work.{Ground, runs_ground, undo_ground, Work, Fair, held_under, ReleasedOne, Fronted, with_answers}
-use Rattle.engine.proofs.Settling.{live_split, trial_there, multi_at_lem, coordinator_at, held_room, held_count, not_held, sent_runs, holds_word}
+use Rattle.engine.specs.Work.{Ground, runs_ground, undo_ground, Work, held_under, ReleasedOne, Fronted, with_answers}
+use Rattle.engine.proofs.Settling.{live_split, trial_there, multi_at_lem, coordinator_at, held_room, held_count, not_held, sent_runs}
 use Rattle.rows.specs.Rows.{trial_at, no_trial, holds_row, held_row, multi_row, same_row, near_row, sent_row}
 use Rattle.rows.specs.declared.Trial.{Trial}
 use Rattle.rows.proofs.Reading.{trial_of}

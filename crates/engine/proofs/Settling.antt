@@ -1,5 +1,5 @@
 -- Settling, in plain terms: the front leaves, singles settle behind it until a multi is first, and then the rows of all of them go at once.
-use Prim.Native.Nat.{ℕ, suc, ◌+◌, ◌*◌, ◌-◌, ◌%◌, min, ◌≤◌, ◌<◌}
+use Prim.Native.Nat.{ℕ, ◌+◌, ◌*◌, ◌-◌, ◌%◌, min, ◌≤◌, ◌<◌}
 use native.Mathlib.Omega.{arith}
 use mathlib.Core.Path.{◌≡◌, refl, sym, ap, ◌∙◌, subst, subst₂}
 use mathlib.Core.Bool.{Bool, true, false, not, true≢false}
@@ -10,12 +10,12 @@ use lib.ListN.{length, get_or, replicate, length-append, length-map, get_or-appe
 use lib.Seq.{sets, get_or-append-add}
 use Rattle.model.specs.Limits.{answer_words}
 use Rattle.model.specs.Operations.{Outcome, pick, multi}
-use Rattle.model.specs.Transactions.{Reply, Held, Sent, NoReply, Uncommitted, Waiting, Answer, answer, words, undo_list, filled, front}
+use Rattle.model.specs.Transactions.{Reply, Held, Sent, NoReply, Uncommitted, Waiting, Answer, answer, undo_list, filled, front}
 use Rattle.model.specs.Steps.{held_by, sent, Place, released, settled}
 use Rattle.model.proofs.Chain.{all_map, all_left, all_right}
 use Rattle.operations.specs.Laid.{padded, flat}
 use Rattle.operations.proofs.Turns.{length-padded}
-use Rattle.record.specs.Words.{row_words, all_rows, state_word, reply_word, held_outcome, outcome_words, run_words, all_runs, row_of, live_rows, over, cleared}
+use Rattle.record.specs.Words.{row_words, all_rows, state_word, reply_word, held_outcome, outcome_words, run_words, all_runs, row_of, live_rows, over}
 use Rattle.record.specs.View.{numbers_from, shifted}
 use Rattle.record.proofs.Rows.{relay_over, shift_over, cleared_zero, length-cleared, numbers_same, numbers_whole}
 use Rattle.record.proofs.Back.{row_read, length_run, length_runs, runs_append, run_read, length-flat, flat_append, undo_append}

@@ -1,12 +1,10 @@
 -- Laws of a text that is put into a buffer part by part, and of what the buffer then shows.
-use Prim.Native.Nat.{ℕ, zero, suc, ◌+◌, ◌-◌, ◌*◌, ◌≤◌, ◌<◌}
+use Prim.Native.Nat.{ℕ, zero, suc, ◌+◌, ◌-◌, ◌≤◌, ◌<◌}
 use native.Mathlib.Omega.{arith}
-use native.Mathlib.Numerals.{add-one}
 use borrow.Author.Tests.{le-leb, lt-leb}
 use mathlib.Core.Path.{◌≡◌, refl, sym, ap, ◌∙◌}
-use mathlib.Core.Bool.{Bool, true, false}
+use mathlib.Core.Bool.{Bool}
 use mathlib.Core.List.{List, [], ◌∷◌, ◌++◌, append_assoc}
-use lib.Dec.{leb}
 use lib.ListN.{length, length-append, take, drop, get_or, set, drop_of_length-le}
 use lib.Seq.{sets, length-sets, sets-eq, take_at, drop-cons, get_or-take, length-take-le}
 use Rattle.model.specs.Operations.{pick}

@@ -1,5 +1,5 @@
 -- Any two outcomes that the contracts of this crate's public functions allow are equal: what each returns and leaves in what was lent to it.
-use mathlib.Core.Path.{◌≡◌, refl}
+use mathlib.Core.Path.{◌≡◌}
 use Rattle.model.proofs.Unique.{Unique}
 use Rattle.listing.proofs.put_listing.Kinds as put-listing-kinds
 use Rattle.listing.proofs.put_listing.Reads as put-listing

@@ -2,7 +2,6 @@
 use Rattle.std.specs.Prelude.{ℕ, zero, suc, ◌+◌, ◌-◌, ◌*◌, ◌≡◌, List, [], ◌∷◌, ◌++◌, leb, length, get_or, set, replicate}
 use Rattle.model.specs.Operations.{Cells, pick}
 use Rattle.model.specs.declared.Scheme.{Scheme}
-use Rattle.engine.specs.declared.Called.{Called}
 use Rattle.engine.specs.Called.{called, room_after}
 use Rattle.trace.specs.declared.Shape.{Shape}
 use Rattle.trace.specs.declared.Shape.TheVariants.{Bad, Trace}

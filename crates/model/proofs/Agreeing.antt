@@ -18,7 +18,7 @@ use Rattle.model.specs.Schemes.{Alike, AllAlike, Twins, Idle, of_singles, replie
 use Rattle.model.specs.declared.Event.{Event}
 use Rattle.model.specs.declared.Fragment.{Fragment}
 use Rattle.model.specs.declared.Scheme.{Scheme}
-use Rattle.model.proofs.Chain.{as_tx, tx_of, lives, latest, Inv, settled_is}
+use Rattle.model.proofs.Chain.{as_tx, tx_of, latest, Inv, settled_is}
 use Rattle.model.proofs.Demanded.{Whole, whole_cells, whole_queue, whole_onward, whole_next, fresh_whole, reaches}
 use Rattle.model.proofs.Leaving.{settled_in_lem}
 use Rattle.model.proofs.Kept.{step_keeps, start_sound, step_number}

@@ -12,7 +12,7 @@ use lib.ListN.{length, take, drop, replicate}
 use Rattle.model.specs.Limits.{most_cells, most_fragments, most_live}
 use Rattle.model.specs.Operations.{Cells, Outcome, multi, pick}
 use Rattle.model.specs.Transactions.{Reply, Held, Sent, finished, holds, Uncommitted, Waiting, Engine, Answer, answer, numbers, attempts, undo_list, front, words}
-use Rattle.model.specs.Steps.{Ran, run, begun, again, nearest, nearest_attempt, Place, placed, Queues, drain, arrival, joined, continued, held_with, held_by, sent, released, settled, committed, requeued, aborted, undone}
+use Rattle.model.specs.Steps.{Ran, run, begun, again, nearest, nearest_attempt, Place, placed, Queues, drain, arrival, continued, held_with, held_by, sent, released, settled, requeued, aborted, undone}
 use Rattle.model.specs.Refusals.{Request, Arrive, Commit, Abort, request, storable, sound, Call, is_front, refusal, taken, largest_after, respond, step, Started, start, empty}
 use Rattle.model.specs.Demand.{Run, onward, runs, fresh, Rises, NoAbort, front_attempt, last_attempt, sent_in}
 use Rattle.model.specs.declared.Fragment.{Fragment}

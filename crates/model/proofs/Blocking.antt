@@ -3,7 +3,7 @@
 -- behind the front, a commit by either scheme releases (02, L6) those that are held, with their dependences (`blocking_releases`, proofs/Cases).
 use Prim.Native.Nat.{ℕ, zero, suc, ◌≤◌}
 use native.Mathlib.Omega.{arith}
-use mathlib.Core.Path.{◌≡◌, refl, sym, ap, subst}
+use mathlib.Core.Path.{◌≡◌, refl, sym, subst}
 use mathlib.Core.Bool.{Bool, true, false, ◌||◌}
 use mathlib.Core.List.{List, [], ◌∷◌, ◌++◌, map}
 use lib.Dec.{ltb, eqb}
@@ -11,7 +11,7 @@ use lib.ListN.{length}
 use Rattle.model.specs.Limits.{most_cells}
 use Rattle.model.specs.Operations.{Cells, pick}
 use Rattle.model.specs.Transactions.{Sent, Uncommitted, Waiting, Engine, Answer}
-use Rattle.model.specs.Steps.{run, begun, Place, placed, Queues, drain, arrival, joined, continued, arrived, settled, committed, requeued, aborted}
+use Rattle.model.specs.Steps.{run, begun, Place, Queues, drain, arrival, joined, continued, arrived, settled, committed, requeued, aborted}
 use Rattle.model.specs.Refusals.{Request, Arrive, Commit, Abort, request, Call, refusal, taken, respond, step, Started, start, empty}
 use Rattle.model.specs.Demand.{Run, onward, runs, fresh}
 use Rattle.model.specs.declared.Fragment.{Fragment}

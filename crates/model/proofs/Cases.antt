@@ -11,7 +11,7 @@ use Rattle.model.specs.Steps.{undone, run_from, placed, drain, released, settled
 use Rattle.model.specs.Refusals.{Call, formed, blank, inside, clauses, sound, rows, refusal, step, start}
 use Rattle.model.specs.Demand.{Run, onward, fresh, AllLend}
 use Rattle.model.specs.Merged.{Merged}
-use Rattle.model.specs.Depot.{Printed, Case, outcome_of, traced, depot, blocked, found, sooner, attempted, slowly, swiftly}
+use Rattle.model.specs.Depot.{Case, outcome_of, traced, depot, blocked, found, sooner, attempted, slowly, swiftly}
 use Rattle.model.specs.declared.Event.{Event}
 use Rattle.model.specs.declared.Scheme.TheVariants.{Speculation, Blocking}
 

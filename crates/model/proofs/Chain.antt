@@ -1,6 +1,6 @@
 -- The invariant of demand 3: the log splits into a closed past, the uncommitted ones and the waiting ones; the uncommitted ones form a chain
 -- from the cells that the past leaves to the cells as they stand.
-use Prim.Native.Nat.{ℕ, zero, suc, ◌+◌, ◌≤◌, ◌<◌}
+use Prim.Native.Nat.{ℕ, suc}
 use native.Mathlib.Omega.{arith}
 use borrow.Author.Tests.{ne_eqb}
 use mathlib.Core.Path.{◌≡◌, refl, sym, ap, ◌∙◌, subst}
@@ -8,13 +8,12 @@ use mathlib.Core.Bool.{Bool, true, false, ◌||◌, true≢false}
 use mathlib.Core.Logic.{◌⊎◌, inl, inr}
 use mathlib.Core.List.Memᴰ
 use mathlib.Core.List.{List, [], ◌∷◌, ◌++◌, map, append_assoc, append-nil, Memᴰ, nil≢cons, head-eq_of_cons-eq, tail-eq_of_cons-eq}
-use lib.Dec.{eqb}
 use lib.ListN.{length, length-append}
 use Rattle.model.specs.Operations.{Cells, Outcome, multi, last, operations, Trial, Done, Broke, trial, told}
 use Rattle.model.specs.Transactions.{State, Running, Finished, Failed, finished, Reply, Held, Sent, NoReply, holds, Uncommitted, Waiting, undo_list, Answer}
 use Rattle.model.specs.Steps.{undone, Ran, run, state_after, begun, again, sent, requeued, last_finished, nearest}
-use Rattle.model.specs.Serial.{Tx, Decision, Open, next, through, attempt, or_else, effect, serial}
-use Rattle.model.specs.Demand.{Log, Standing, Settles, Gone, Undecided, standing, settled_of, live_of, extended}
+use Rattle.model.specs.Serial.{Tx, Open, next, through, attempt, or_else, effect, serial}
+use Rattle.model.specs.Demand.{Log, Standing, Settles, Gone, Undecided, standing, settled_of, live_of}
 use Rattle.model.specs.declared.Fragment.{Fragment}
 use Rattle.model.specs.declared.Undo.{Undo}
 use Rattle.model.proofs.Undoing.{Agree, run_agrees, undone_append, Placed, trial_placed}

@@ -1,14 +1,14 @@
 -- The three columns of flags say what the meanings do: what never fails, what only reads, what ignores v. What fails gives the number it found.
-use Prim.Native.Nat.{ℕ, zero, suc, ◌+◌, ◌≤◌, ◌<◌}
+use Prim.Native.Nat.{ℕ, zero, suc, ◌+◌, ◌≤◌}
 use native.Mathlib.Omega.{arith}
 use borrow.Author.Tests.{leb-true}
-use mathlib.Core.Path.{◌≡◌, refl, sym, ◌∙◌, subst}
+use mathlib.Core.Path.{◌≡◌, refl, sym, subst}
 use mathlib.Core.Bool.{Bool, true, false, true≢false}
 use lib.Dec.{leb, ltb, eqb}
 use lib.ListN.{length}
 use mathlib.Core.List.{List, [], ◌∷◌, ◌++◌}
 use Rattle.model.specs.Limits.{TOP}
-use Rattle.model.specs.Operations.{Cells, Outcome, known, uses, writes, may_fail, meaning, content, operate, operations, put, pick, tells}
+use Rattle.model.specs.Operations.{Cells, known, uses, writes, may_fail, meaning, content, operate, operations, put, pick, tells}
 use Rattle.model.specs.Steps.{Ran, run_from, run, undone, noted}
 use Rattle.model.specs.declared.Op.{Op}
 use Rattle.model.specs.declared.Fragment.{Fragment}

@@ -1,5 +1,5 @@
 -- Demand 3, proved: one call keeps the invariant, and the invariant says what each sentence asks.
-use Prim.Native.Nat.{ℕ, zero, suc, ◌+◌, ◌≤◌, ◌<◌}
+use Prim.Native.Nat.{ℕ, zero, suc, ◌≤◌, ◌<◌}
 use native.Mathlib.Omega.{arith}
 use borrow.Author.Tests.{ltb-true, le-ltb, eqb-true}
 use mathlib.Core.Path.{◌≡◌, refl, sym, ap, ◌∙◌, subst}
@@ -10,17 +10,17 @@ use mathlib.Core.List.{List, [], ◌∷◌, ◌++◌, map, append_assoc, append-
 use lib.Dec.{ltb, eqb}
 use lib.ListN.{length, take}
 use lib.Seq.{take_at}
-use Rattle.model.specs.Operations.{Cells, Outcome, multi, told, pick}
+use Rattle.model.specs.Operations.{Cells, multi, told, pick}
 use Rattle.model.specs.Limits.{most_cells}
-use Rattle.model.specs.Transactions.{front, Uncommitted, Waiting, Answer, answer, Engine, numbers, finished}
+use Rattle.model.specs.Transactions.{front, Uncommitted, Waiting, Answer, Engine, numbers, finished}
 use Rattle.model.specs.Steps.{Queues, arrival, joined, continued, arrived}
 use Rattle.model.specs.Refusals.{Request, Arrive, Commit, Abort, request, sound, Call, live, new, is_front, refusal, taken, largest_after, respond, step, settles_by, settles_in, Started, start, empty}
-use Rattle.model.specs.Serial.{Tx, Decision, Open, Committed, Aborted, attempt, effect, serial}
-use Rattle.model.specs.Demand.{SettlingOrder, QueueOrder, numbers_of, Log, is_logged, at, extended, decided, logged, noticed, kept, Run, onward, runs, fresh, Lends, AllLend, Standing, Settles, Gone, Undecided, standing, settled_of, live_of, uncommitted_tx, CellsHold, Gives, PlainRight, front_attempt, last_attempt, sent_in, NoAbort, DependentRight, SeenRight, UndisturbedRight, Demand3}
+use Rattle.model.specs.Serial.{Tx, Open, Committed, Aborted, attempt, effect, serial}
+use Rattle.model.specs.Demand.{QueueOrder, numbers_of, Log, is_logged, at, extended, decided, logged, noticed, kept, Run, onward, runs, fresh, Lends, AllLend, Standing, Settles, Gone, Undecided, settled_of, live_of, CellsHold, Gives, front_attempt, last_attempt, sent_in, NoAbort, DependentRight, SeenRight, UndisturbedRight, Demand3}
 use Rattle.model.specs.declared.Event.{Event}
 use Rattle.model.specs.declared.Fragment.{Fragment}
 use Rattle.model.specs.declared.Scheme.{Scheme}
-use Rattle.model.proofs.Logs.{InOrder, serial_append, rises_weaken, rises_settled, rises_at, gives_at, settled_append, live_append, known_new, known_at}
+use Rattle.model.proofs.Logs.{InOrder, serial_append, rises_weaken, rises_settled, rises_at, gives_at, settled_append, known_new, known_at}
 use Rattle.model.proofs.Chain.{nearest_tx, pend_multi_leaves, as_tx, tx_of, lives, Pend, InPast, Followed, all_mem, Inv, chain_cells, lives_length, settled_is}
 use Rattle.model.proofs.Draining.{Plain, nearest_low}
 use Rattle.model.proofs.Settling.{log_front, rises_log_front, Got, commit_inv, abort_inv, again_inv, new_inv, top_front, rises_front}

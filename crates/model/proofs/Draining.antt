@@ -1,27 +1,23 @@
 -- Draining keeps the invariant, every answer without a dependence that it sends is right, and the singles that settle are answered.
-use Prim.Native.Nat.{ℕ, zero, suc, ◌+◌, ◌≤◌, ◌<◌}
+use Prim.Native.Nat.{ℕ, ◌≤◌, ◌<◌}
 use native.Mathlib.Omega.{arith}
 use mathlib.Core.Path.{◌≡◌, refl, sym, ap, ◌∙◌, subst}
-use mathlib.Core.Bool.{Bool, true, false, ◌&&◌, ◌||◌, true≢false}
-use mathlib.Core.Logic.{◌⊎◌, inl, inr}
-use mathlib.Core.List.{List, [], ◌∷◌, ◌++◌, map, append_assoc, append-nil, Memᴰ}
-use lib.Dec.{ltb}
-use lib.ListN.{length}
-use Rattle.model.specs.Limits.{depth}
-use Rattle.model.specs.Operations.{Cells, Outcome, multi, operations, trial, told}
+use mathlib.Core.Bool.{Bool, true, false, ◌||◌, true≢false}
+use mathlib.Core.Logic.{inl}
+use mathlib.Core.List.{List, [], ◌∷◌, ◌++◌, map, append_assoc, append-nil}
+use Rattle.model.specs.Operations.{Cells, Outcome, multi, told}
 use Rattle.model.specs.Transactions.{Reply, Held, Sent, holds, Uncommitted, Waiting, Answer, answer}
-use Rattle.model.specs.Steps.{Ran, run, begun, one_coordinator, nearest, nearest_attempt, last_finished, may_take, Queues, sending, Place, placed, drain}
-use Rattle.model.specs.Serial.{Tx, Decision, Open, Committed, Aborted, attempt, effect, serial}
-use Rattle.model.specs.Demand.{Log, Standing, Settles, Gone, Undecided, standing, settled_of, Gives}
+use Rattle.model.specs.Steps.{Ran, run, begun, nearest, nearest_attempt, last_finished, may_take, Queues, Place, placed, drain}
+use Rattle.model.specs.Serial.{attempt, effect, serial}
+use Rattle.model.specs.Demand.{Log, Standing, Settles, Undecided, standing, settled_of, Gives}
 use Rattle.model.specs.declared.Fragment.{Fragment}
 use Rattle.model.specs.declared.Scheme.{Scheme}
-use Rattle.model.proofs.Undoing.{Agree}
 use Rattle.model.proofs.Taking.{may_finished}
 use Rattle.model.proofs.Tests.{or_true}
 use Rattle.model.proofs.Branches.{placed_idle, placed_behind, drain_cases}
 use Rattle.model.proofs.Replying.{Went, went_none, went_both, went_multi, went_settles}
-use Rattle.model.proofs.Logs.{InOrder, rises_weaken, rises_at, gives_at, Past, Closed, closed_snoc, past_settles}
-use Rattle.model.proofs.Chain.{nearest_tx, nearest_lives, as_tx, tx_of, lives, Entry, Chain, ButLast, FrontMulti, Pend, InPast, Followed, all_map, all_append, Inv, chain_cells, chain_snoc, lives_snoc, ready_snoc, ready_tail, begun_agrees, begun_stands, begun_entry, settled_is, sent_is_not_held, held_inj, followed_idle, followed_snoc, in_past, none_pends}
+use Rattle.model.proofs.Logs.{InOrder, rises_weaken, gives_at, Past, closed_snoc, past_settles}
+use Rattle.model.proofs.Chain.{nearest_tx, nearest_lives, as_tx, lives, Followed, all_map, all_append, Inv, chain_cells, chain_snoc, lives_snoc, ready_snoc, begun_agrees, begun_stands, begun_entry, settled_is, sent_is_not_held, held_inj, followed_idle, followed_snoc}
 use Rattle.model.specs.Parts.{All}
 
 pub past_if : (s : Standing) → s ≡ Settles → Past s

@@ -1,17 +1,17 @@
 -- The steps keep a sound record sound, and send at most one answer for each transaction that they touch.
-use Prim.Native.Nat.{ℕ, zero, suc, ◌+◌, ◌*◌, ◌≤◌, ◌<◌}
+use Prim.Native.Nat.{ℕ, suc, ◌+◌, ◌≤◌, ◌<◌}
 use native.Mathlib.Omega.{arith}
 use borrow.Author.Tests.{ltb-true, leb-true, leb-false, lt-ltb, le-leb}
 use mathlib.Core.Path.{◌≡◌, refl, sym, ap, ◌∙◌, subst}
 use mathlib.Core.Bool.{Bool, true, false, not, ◌&&◌, ◌||◌, true≢false}
-use mathlib.Core.List.{List, [], ◌∷◌, ◌++◌, map, append_assoc}
+use mathlib.Core.List.{List, [], ◌∷◌, ◌++◌, map}
 use lib.Dec.{leb, ltb, eqb}
-use lib.ListN.{length, take, length-append, length-map, length-take}
+use lib.ListN.{length, length-append, length-map, length-take}
 use Rattle.model.specs.Limits.{most_operations, most_fragments, depth, most_live}
 use Rattle.model.specs.Operations.{Cells, Outcome, operate, put, writes, content, multi, last, operations, tells}
-use Rattle.model.specs.Transactions.{State, Running, Finished, Failed, finished, Reply, Held, Sent, NoReply, holds, Uncommitted, Waiting, numbers, attempts, Answer, answer, front}
-use Rattle.model.specs.Steps.{noted, Ran, run_from, run, state_after, begun, again, one_coordinator, nearest, nearest_attempt, last_finished, may_take, Place, placed, Queues, sending, drain, arrival, joined, continued, held_by, sent, released, settled, committed, requeued, aborted, undone}
-use Rattle.model.specs.Refusals.{every, inside, formed, storable, behind, ready, fits, is_state, is_reply}
+use Rattle.model.specs.Transactions.{State, Running, Finished, Failed, finished, Reply, Held, Sent, holds, Uncommitted, Waiting, numbers, attempts}
+use Rattle.model.specs.Steps.{noted, Ran, run_from, run, state_after, begun, again, last_finished, may_take, Place, placed, Queues, drain, arrival, joined, continued, held_by, sent, released, settled, committed, requeued, aborted, undone}
+use Rattle.model.specs.Refusals.{every, inside, formed, storable, ready, fits, is_state, is_reply}
 use Rattle.model.specs.Demand.{Rises}
 use Rattle.model.specs.declared.Op.{Op}
 use Rattle.model.specs.declared.Fragment.{Fragment}
@@ -19,7 +19,7 @@ use Rattle.model.specs.declared.Scheme.{Scheme}
 use Rattle.model.specs.declared.Undo.{Undo}
 use Rattle.model.specs.declared.Did.TheVariants.{Number, Fails}
 use Rattle.model.proofs.Chain.{all_append}
-use Rattle.model.proofs.Tests.{both, and_left, and_right, or_left, or_right, or_true, every_append}
+use Rattle.model.proofs.Tests.{both, and_left, and_right, or_left, or_true, every_append}
 use Rattle.model.proofs.Taking.{may_less, may_finished}
 use Rattle.model.proofs.Branches.{placed_idle, placed_behind, settled_cases, drain_cases}
 use Rattle.model.proofs.Releasing.{released_keeps, released_length, released_all, held_one, released_most}

@@ -2,7 +2,7 @@
 -- refused by 3 for ever.
 use Prim.Native.Nat.{ℕ, zero, suc, ◌+◌, ◌≤◌, ◌<◌}
 use native.Mathlib.Omega.{arith}
-use borrow.Author.Tests.{ltb-true, leb-false, le-leb, le-ltb, eqb-true, ne_eqb, not-false, ltb-false}
+use borrow.Author.Tests.{ltb-true, leb-false, le-ltb, eqb-true, not-false, ltb-false}
 use mathlib.Core.Path.{◌≡◌, refl, sym, ap, ◌∙◌, subst}
 use mathlib.Core.Bool.{Bool, true, false, not, ◌&&◌, ◌||◌, true≢false}
 use mathlib.Core.List.{List, [], ◌∷◌}
@@ -12,9 +12,8 @@ use Rattle.model.specs.Limits.{most_cells, most_fragments, most_live, least_room
 use Rattle.model.specs.Operations.{Cells, pick}
 use Rattle.model.specs.Transactions.{finished, Uncommitted, Waiting, Engine, numbers}
 use Rattle.model.specs.Steps.{Queues, joined, continued, arrived, committed, aborted}
-use Rattle.model.specs.Refusals.{Request, Arrive, Commit, Abort, request, formed, blank, formed_event, inside, storable, sound, Call, live, new, is_front, rows, first_of, refusal, taken, largest_after, respond, step, Started, start, empty}
+use Rattle.model.specs.Refusals.{Request, Arrive, Commit, Abort, request, formed, blank, formed_event, inside, storable, sound, Call, live, rows, first_of, refusal, taken, largest_after, respond, step, Started, start, empty}
 use Rattle.model.specs.Demand.{Run, onward, runs, fresh}
-use Rattle.model.specs.declared.Event.{Event}
 use Rattle.model.specs.declared.Fragment.{Fragment}
 use Rattle.model.specs.declared.Scheme.{Scheme}
 use Rattle.model.proofs.Branches.{request_cases}

@@ -1,15 +1,15 @@
 -- Laws of logs alone: numbers rise, a number names one place, what is settled before it. No engine here.
-use Prim.Native.Nat.{ℕ, zero, suc, ◌+◌, ◌≤◌, ◌<◌}
+use Prim.Native.Nat.{ℕ, ◌≤◌, ◌<◌}
 use native.Mathlib.Omega.{arith}
 use native.Mathlib.Nat.{le_refl}
 use borrow.Author.Tests.{lt-ltb, le-ltb, eq-eqb, ne_eqb}
 use mathlib.Core.Path.{◌≡◌, refl, sym, ap, ◌∙◌, subst}
 use mathlib.Core.Bool.{Bool, true, false}
-use mathlib.Core.List.{List, [], ◌∷◌, ◌++◌, append_assoc, append-nil}
-use lib.Dec.{ltb, eqb}
+use mathlib.Core.List.{List, [], ◌∷◌, ◌++◌, append-nil}
+use lib.Dec.{eqb}
 use Rattle.model.specs.Operations.{Cells, Outcome, told}
-use Rattle.model.specs.Serial.{Tx, Decision, Open, attempt, effect, serial}
-use Rattle.model.specs.Demand.{Rises, numbers_of, Log, is_logged, at, Standing, Settles, Gone, Undecided, standing, settled_of, live_of, before, Found, This, None, the, Gives}
+use Rattle.model.specs.Serial.{Tx, attempt, effect, serial}
+use Rattle.model.specs.Demand.{Rises, numbers_of, Log, is_logged, at, Standing, Settles, Gone, Undecided, standing, settled_of, live_of, before, Found, This, the, Gives}
 
 -- the numbers of a log rise
 abbrev pub InOrder : ℕ → ℕ → Log → Type 0

@@ -1,15 +1,12 @@
 -- What an accepted call has passed: none of the fourteen rows applies.
-use Prim.Native.Nat.{ℕ, zero, suc, ◌+◌, ◌<◌}
+use Prim.Native.Nat.{ℕ, zero, suc, ◌<◌}
 use native.Mathlib.Omega.{arith}
-use mathlib.Core.Path.{◌≡◌, refl, sym, ◌∙◌}
-use mathlib.Core.Bool.{Bool, true, false, not, ◌&&◌, ◌||◌, true≢false}
+use mathlib.Core.Path.{◌≡◌, refl, sym}
+use mathlib.Core.Bool.{Bool, true, false, not, ◌&&◌, true≢false}
 use mathlib.Core.List.{List, [], ◌∷◌}
-use lib.Dec.{leb, ltb, eqb}
-use lib.ListN.{length}
-use Rattle.model.specs.Limits.{most_fragments, most_live, least_room}
-use Rattle.model.specs.Operations.{multi}
-use Rattle.model.specs.Transactions.{finished, failed, Engine}
-use Rattle.model.specs.Refusals.{sound, formed_event, inside, Call, live, new, is_front, at_front, rows, first_of, refusal, respond, step}
+use lib.Dec.{eqb}
+use Rattle.model.specs.Transactions.{Engine}
+use Rattle.model.specs.Refusals.{Call, live, new, is_front, rows, first_of, refusal, respond, step}
 use Rattle.model.specs.Parts.{All, Passed}
 
 none_applies : (rs : List (ℕ × Bool)) → All (λ (r : ℕ × Bool). 0 < r.0) rs → first_of rs ≡ 0 → All (λ (r : ℕ × Bool). r.1 ≡ false) rs

@@ -7,7 +7,7 @@ use mathlib.Core.List.{List, [], ◌∷◌, ◌++◌, append_assoc, append-nil}
 use Rattle.model.specs.Operations.{Cells, multi, told}
 use Rattle.model.specs.Transactions.{Answer, answer}
 use Rattle.model.specs.Serial.{Tx, attempt, effect, serial}
-use Rattle.model.specs.Demand.{Log, Standing, Settles, Gone, Undecided, standing, settled_of, numbers_of, Found, This, None, the}
+use Rattle.model.specs.Demand.{Log, Settles, Gone, standing, settled_of, numbers_of, Found, This, None, the}
 use Rattle.model.specs.Schemes.{single, attempts_aside, of_singles, replies}
 use Rattle.model.proofs.Logs.{InOrder, the_at, Closed, settled_snoc, settled_gone}
 

@@ -4,12 +4,12 @@ use Prim.Native.Nat.{ℕ, zero, suc, ◌≤◌, ◌<◌}
 use native.Mathlib.Omega.{arith}
 use borrow.Author.Tests.{ltb-true, not-false}
 use mathlib.Core.Path.{◌≡◌, refl, sym, subst}
-use mathlib.Core.Bool.{Bool, true, false, ◌&&◌}
+use mathlib.Core.Bool.{Bool, true, false}
 use mathlib.Core.List.{List, [], ◌∷◌, ◌++◌, map, append_assoc}
 use lib.Dec.{ltb, eqb}
-use Rattle.model.specs.Operations.{Cells, multi}
-use Rattle.model.specs.Transactions.{Reply, Held, Sent, NoReply, Uncommitted, Waiting, Engine, Answer, answer, Rising, numbers, front}
-use Rattle.model.specs.Steps.{run, begun, again, one_coordinator, nearest, nearest_attempt, may_take, Place, placed, Queues, sending, drain, joined, continued, arrival, arrived, held_with, held_by, sent, released, settled, committed, requeued, aborted}
+use Rattle.model.specs.Operations.{Cells}
+use Rattle.model.specs.Transactions.{Uncommitted, Waiting, Engine, Answer, Rising, numbers, front}
+use Rattle.model.specs.Steps.{run, nearest, nearest_attempt, Place, placed, Queues, drain, joined, continued, arrival, arrived, held_with, held_by, released, settled, committed, requeued, aborted}
 use Rattle.model.specs.Refusals.{Request, Arrive, Commit, Abort, request, sound, live, new, is_front, Call, refusal, taken, largest_after, respond, step}
 use Rattle.model.specs.Demand.{Rises}
 use Rattle.model.specs.declared.Fragment.{Fragment}
@@ -18,7 +18,7 @@ use Rattle.model.proofs.Branches.{placed_idle, placed_behind, released_cases, se
 use Rattle.model.proofs.Passing.{passed, front_or_new}
 use Rattle.model.proofs.Sound.{sound_parts}
 use Rattle.model.proofs.Keeping.{rises_weaken, rises_top, numbers_requeued, numbers_more, rises_more}
-use Rattle.model.specs.Parts.{Passed, Sound, SoundEngine}
+use Rattle.model.specs.Parts.{Passed}
 
 -- the numbers of answers rise from above n to at most top
 abbrev Up : ℕ → ℕ → List Answer → Type 0

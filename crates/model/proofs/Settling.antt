@@ -1,21 +1,19 @@
 -- Commit, abort and arrivals keep the invariant.
-use Prim.Native.Nat.{ℕ, zero, suc, ◌+◌, ◌≤◌, ◌<◌}
-use native.Mathlib.Omega.{arith}
+use Prim.Native.Nat.{ℕ, ◌≤◌, ◌<◌}
 use mathlib.Core.Path.{◌≡◌, refl, sym, ap, ◌∙◌, subst}
 use mathlib.Core.Bool.{Bool, true, false, ◌||◌, true≢false}
 use mathlib.Core.Logic.{◌⊎◌, inl, inr}
 use mathlib.Core.List.Memᴰ
 use mathlib.Core.List.{List, [], ◌∷◌, ◌++◌, map, append_assoc, append-nil, Memᴰ, nil≢cons}
-use lib.ListN.{length}
-use Rattle.model.specs.Operations.{Cells, Outcome, multi, told}
-use Rattle.model.specs.Transactions.{Reply, Held, Sent, NoReply, holds, Uncommitted, Waiting, Answer, answer, undo_list, finished}
-use Rattle.model.specs.Steps.{undone, Ran, run, again, requeued, Place, drain, nearest, nearest_attempt, held_by, sent, released, settled, Queues, sending, arrival, joined, continued, committed, aborted}
-use Rattle.model.specs.Serial.{Tx, Decision, Open, Committed, Aborted, attempt, effect, serial}
+use Rattle.model.specs.Operations.{Cells, multi, told}
+use Rattle.model.specs.Transactions.{Uncommitted, Waiting, Answer, answer, undo_list, finished}
+use Rattle.model.specs.Steps.{undone, run, again, requeued, Place, drain, nearest, nearest_attempt, held_by, sent, released, settled, Queues, sending, arrival, joined, continued, committed, aborted}
+use Rattle.model.specs.Serial.{Tx, Committed, Aborted, attempt, effect, serial}
 use Rattle.model.specs.Demand.{Log, Standing, Settles, Gone, Undecided, standing, settled_of, Gives, at, extended, decided}
 use Rattle.model.specs.declared.Fragment.{Fragment}
 use Rattle.model.specs.declared.Scheme.{Scheme}
-use Rattle.model.proofs.Logs.{InOrder, serial_append, rises_at, rises_put, rises_more, rises_below, gives_at, Past, Closed, closed_snoc, past_settles, past_gone, at_at}
-use Rattle.model.proofs.Chain.{as_tx, tx_of, lives, Entry, Chain, ButLast, FrontMulti, Pend, InPast, Followed, all_map, all_append, Inv, nearest_lives, chain_undone, lives_snoc, lives_requeued, ready_tail, again_entry, sent_is_not_held, followed_idle, in_past, pend_multi_leaves, pend_single_leaves, pend_front, pend_same, pend_alone, settled_is}
+use Rattle.model.proofs.Logs.{InOrder, serial_append, rises_put, rises_more, rises_below, gives_at, Past, Closed, closed_snoc, past_settles, past_gone, at_at}
+use Rattle.model.proofs.Chain.{as_tx, tx_of, lives, Entry, Chain, ButLast, Pend, InPast, Followed, all_map, all_append, Inv, nearest_lives, chain_undone, lives_snoc, lives_requeued, ready_tail, again_entry, sent_is_not_held, followed_idle, in_past, pend_multi_leaves, pend_single_leaves, pend_front, pend_same, pend_alone, settled_is}
 use Rattle.model.proofs.Replying.{Went, went_none, went_both, went_from, went_multi, went_settles, went_commit, went_gone}
 use Rattle.model.proofs.Branches.{released_cases, settled_cases, held_cases}
 use Rattle.model.proofs.Releasing.{released_sent, released_keeps}

@@ -1,21 +1,20 @@
 -- Refusal 1 by parts: a sound record, member by member, and the test of it both ways.
-use Prim.Native.Nat.{ℕ, zero, suc, ◌+◌, ◌*◌, ◌-◌, ◌≤◌, ◌<◌}
+use Prim.Native.Nat.{ℕ, ◌+◌, ◌*◌, ◌-◌, ◌≤◌}
 use native.Mathlib.Omega.{arith}
 use borrow.Author.Tests.{ltb-true, leb-true, lt-ltb, le-leb, not-true}
-use mathlib.Core.Path.{◌≡◌, refl, sym, ap, ◌∙◌, subst}
-use mathlib.Core.Bool.{Bool, true, false, not, ◌&&◌, ◌||◌, true≢false}
-use mathlib.Core.List.{List, [], ◌∷◌, ◌++◌, map}
+use mathlib.Core.Path.{◌≡◌, refl, ap}
+use mathlib.Core.Bool.{Bool, true, not, ◌&&◌, ◌||◌}
+use mathlib.Core.List.{List, [], ◌∷◌}
 use lib.Dec.{leb, ltb}
 use lib.ListN.{length, length-append}
 use Rattle.model.specs.Limits.{most_cells, most_fragments, depth, most_live, most_entries}
 use Rattle.model.specs.Operations.{multi}
-use Rattle.model.specs.Transactions.{finished, holds, Uncommitted, Waiting, Engine, undo_list, numbers, attempts, front}
-use Rattle.model.specs.Refusals.{every, rising, ahead_fits, storable, behind, ready, fits, is_state, is_reply, clauses, sound}
+use Rattle.model.specs.Transactions.{holds, Uncommitted, Waiting, Engine, undo_list, numbers, attempts, front}
+use Rattle.model.specs.Refusals.{every, rising, ahead_fits, storable, behind, fits, is_state, is_reply, clauses, sound}
 use Rattle.model.specs.Demand.{Rises}
-use Rattle.model.specs.declared.Undo.{Undo}
 use Rattle.model.proofs.Chain.{all_map}
 use Rattle.model.proofs.Tests.{both, and_left, and_right, every-all, all-every, every_append, every_first, every_rest}
-use Rattle.model.specs.Parts.{All, cell_inside, SoundOne, Stored, bad_front, Ahead, Sound, SoundEngine}
+use Rattle.model.specs.Parts.{All, cell_inside, SoundOne, bad_front, Ahead, Sound, SoundEngine}
 
 -- From the test
 

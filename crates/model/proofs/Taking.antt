@@ -1,8 +1,8 @@
 -- What the proofs use of the drain's condition, whatever the scheme: it holds of the empty queue, by its first line, and where it holds of
 -- another, fewer than 16 are uncommitted and the last of them is finished. A third scheme that has both needs no other proof.
 use mathlib.Core.Path.{◌≡◌, sym}
-use mathlib.Core.Bool.{Bool, true, false, ◌&&◌, true≢false}
-use mathlib.Core.List.{List, [], ◌∷◌}
+use mathlib.Core.Bool.{true, true≢false}
+use mathlib.Core.List.{List, ◌∷◌}
 use lib.Dec.{ltb}
 use lib.ListN.{length}
 use Rattle.model.specs.Limits.{depth}

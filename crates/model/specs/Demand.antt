@@ -8,7 +8,7 @@ use Rattle.std.specs.Prelude.{ℕ, zero, suc, ◌≤◌, ◌<◌, ◌≡◌, Boo
 use mathlib.Core.List.{List, [], ◌∷◌, ◌++◌, map, Memᴰ}
 use Rattle.model.specs.Operations.{Cells, Outcome, multi, told}
 use Rattle.model.specs.Transactions.{Uncommitted, Engine, Answer, numbers}
-use Rattle.model.specs.Refusals.{Request, Arrive, Commit, Abort, request, is_in, Call, Stepped, step, settles_in, start}
+use Rattle.model.specs.Refusals.{Request, Arrive, Commit, Abort, request, is_in, Call, step, settles_in, start}
 use Rattle.model.specs.Serial.{Tx, Decision, Open, Committed, Aborted, attempt, serial}
 use Rattle.model.specs.declared.Fragment.{Fragment}
 

@@ -6,7 +6,7 @@ use Rattle.std.specs.Prelude.{ℕ, ◌-◌, List, [], ◌∷◌, ◌++◌, true,
 use Rattle.model.specs.Limits.{TOP, least_room}
 use Rattle.model.specs.Operations.{Cells}
 use Rattle.model.specs.Transactions.{Engine, Answer, answer}
-use Rattle.model.specs.Refusals.{Stepped, step, start}
+use Rattle.model.specs.Refusals.{step, start}
 use Rattle.model.specs.declared.Op.{Op}
 use Rattle.model.specs.declared.Event.{Event}
 use Rattle.model.specs.declared.Scheme.{Scheme}

@@ -1,5 +1,5 @@
 -- Document 01, "Numbers a call returns": well-formedness, soundness, the ordered refusals, starting, and one call.
-use Rattle.std.specs.Prelude.{ℕ, zero, suc, ◌+◌, ◌*◌, Bool, true, false, not, ◌&&◌, ◌||◌, List, [], ◌∷◌, ◌++◌, map, leb, ltb, eqb, length, take, drop}
+use Rattle.std.specs.Prelude.{ℕ, zero, suc, ◌+◌, ◌*◌, Bool, true, false, not, ◌&&◌, ◌||◌, List, [], ◌∷◌, leb, ltb, eqb, length, drop}
 use Rattle.model.specs.Limits.{most_cells, most_operations, most_fragments, most_coordinator, depth, most_live, most_entries, least_room}
 use Rattle.model.specs.Operations.{Cells, known, uses, multi, last, operations, pick}
 use Rattle.model.specs.Transactions.{State, Running, Finished, Failed, NoState, finished, failed, Reply, Held, Sent, NoReply, holds, Uncommitted, Waiting, Engine, undo_list, numbers, attempts, front, Answer, filled}

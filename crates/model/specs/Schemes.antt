@@ -6,7 +6,7 @@ use Rattle.model.specs.Operations.{Cells, multi, told}
 use Rattle.model.specs.Transactions.{Answer, answer, numbers}
 use Rattle.model.specs.Refusals.{Call, step}
 use Rattle.model.specs.Serial.{Tx, attempt, effect}
-use Rattle.model.specs.Demand.{Log, Run, onward, runs, fresh, Lends, AllLend, settled_of, settled_in, Found, This, None, the}
+use Rattle.model.specs.Demand.{Log, Run, onward, runs, fresh, Lends, AllLend, settled_of, settled_in, This, None, the}
 
 -- two calls that ask the same: they may differ in their scheme, in what the lent cells hold and in what the lent room holds
 pub record Alike (c d : Call) : Type 0 where

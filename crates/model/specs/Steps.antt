@@ -1,12 +1,11 @@
 -- Document 01, "The steps": a fragment's run with undo entries, undoing, drain, arrival, commit and abort; the commit as 02's L6 amends it.
-use Rattle.std.specs.Prelude.{ℕ, zero, suc, ◌+◌, Bool, true, false, not, ◌&&◌, ◌||◌, List, [], ◌∷◌, ◌++◌, map, ltb, eqb, length, set}
+use Rattle.std.specs.Prelude.{ℕ, suc, ◌+◌, Bool, true, false, not, ◌&&◌, ◌||◌, List, [], ◌∷◌, ◌++◌, map, ltb, eqb, length, set}
 use Rattle.model.specs.Limits.{depth}
 use Rattle.model.specs.Operations.{Cells, Outcome, content, operate, put, writes, multi, last, operations, tells}
-use Rattle.model.specs.Transactions.{State, Running, Finished, Failed, NoState, finished, Reply, Held, Sent, NoReply, Uncommitted, Waiting, Answer, answer, undo_list}
+use Rattle.model.specs.Transactions.{State, Running, Finished, Failed, finished, Reply, Held, Sent, NoReply, Uncommitted, Waiting, Answer, answer, undo_list}
 use Rattle.model.specs.declared.Op.{Op}
 use Rattle.model.specs.declared.Fragment.{Fragment}
 use Rattle.model.specs.declared.Undo.{Undo}
-use Rattle.model.specs.declared.Did.{Did}
 use Rattle.model.specs.declared.Did.TheVariants.{Number, Fails}
 use Rattle.model.specs.declared.Scheme.{Scheme}
 use Rattle.model.specs.declared.Scheme.TheVariants.{Speculation, Blocking}

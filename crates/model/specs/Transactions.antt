@@ -1,5 +1,5 @@
 -- Document 01, "Transactions": what the engine's record means, and what an answer is.
-use Rattle.std.specs.Prelude.{ℕ, ◌*◌, ◌<◌, Bool, true, false, List, [], ◌∷◌, ◌++◌, map, ltb, length, take, drop, replicate}
+use Rattle.std.specs.Prelude.{ℕ, ◌<◌, Bool, true, false, List, [], ◌∷◌, ◌++◌, map, length, take, drop, replicate}
 use Rattle.model.specs.Limits.{most_operations}
 use Rattle.model.specs.Operations.{Outcome}
 use Rattle.model.specs.declared.Fragment.{Fragment}

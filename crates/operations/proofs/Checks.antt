@@ -1,5 +1,5 @@
 -- Laws of the checks: which case of a definition a test picks.
-use mathlib.Core.Path.{◌≡◌, refl, sym, ap, ◌∙◌}
+use mathlib.Core.Path.{◌≡◌, sym, ap, ◌∙◌}
 use mathlib.Core.Bool.{Bool, true, false, ◌&&◌}
 use lib.Dec.{leb, eqb}
 use Rattle.model.specs.Limits.{most_coordinator}

@@ -3,14 +3,14 @@ use Prim.Native.Nat.{ℕ, zero, suc, ◌+◌, ◌*◌, ◌-◌, min, ◌≤◌, 
 use native.Mathlib.Omega.{arith}
 use native.Mathlib.Numerals.{add-one}
 use native.Mathlib.Nat.{add_assoc}
-use mathlib.Core.Path.{◌≡◌, refl, sym, ap, ◌∙◌, subst}
+use mathlib.Core.Path.{◌≡◌, refl, sym, ap, ◌∙◌}
 use mathlib.Core.Bool.{Bool, true, false}
-use mathlib.Core.List.{List, [], ◌∷◌, ◌++◌, append_assoc, append-nil, map}
+use mathlib.Core.List.{List, [], ◌∷◌, ◌++◌, append_assoc, map}
 use lib.ListN.{length, get_or, set, take, drop, replicate, length-append, length-replicate, length-take, length-map, drop_of_length-le}
 use lib.Dec.{leb, eqb}
 use borrow.Author.Tests.{leb-true, leb-false, eq-eqb, ne_eqb}
 use lib.Seq.{take_all, take-suc, take-suc-set, set_at, drop-cons, get_or-take, get_or_at, get_or-append-add}
-use Rattle.model.specs.Operations.{Cells, content, operate, meaning, put, writes, operations, Outcome, tells}
+use Rattle.model.specs.Operations.{Cells, content, operate, meaning, put, writes, operations, tells}
 use Rattle.model.specs.Steps.{undone, noted, run_from, run}
 use Rattle.model.specs.Steps as Steps
 use Rattle.model.proofs.Undoing.{undone_append}
@@ -22,7 +22,6 @@ use Rattle.model.specs.declared.Did.{Did}
 use Rattle.model.specs.declared.Did.TheVariants.{Number, Fails}
 use Rattle.operations.specs.declared.Operated.{Operated}
 use Rattle.operations.specs.declared.Ran.{Ran}
-use Rattle.operations.specs.declared.Told.{Told}
 use Rattle.operations.specs.Laid.{operated, afterwards, entry_at, entries_of, flat, padded, note_count, note_row, laid, told}
 use Rattle.operations.specs.Words.{op_at, fragment_at}
 

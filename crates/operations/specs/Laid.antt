@@ -4,7 +4,6 @@ use Rattle.model.specs.Operations.{Cells, content, operate, put, writes}
 use Rattle.model.specs.Steps as Steps
 use Rattle.model.specs.declared.Op.{Op}
 use Rattle.model.specs.declared.Undo.{Undo}
-use Rattle.model.specs.declared.Did.{Did}
 use Rattle.model.specs.declared.Did.TheVariants.{Number, Fails}
 use Rattle.operations.specs.declared.Operated.{Operated}
 use Rattle.operations.specs.declared.Ran.{Ran}

@@ -1,5 +1,5 @@
 -- What fits a row's places: a fragment of eight places, a run that holds at most eight numbers and whose words stand for a state and a reply.
-use Rattle.std.specs.Prelude.{ℕ, ◌≤◌, ◌≡◌, true, length}
+use Rattle.std.specs.Prelude.{◌≤◌, ◌≡◌, true, length}
 use Rattle.model.specs.Transactions.{Uncommitted, Waiting}
 use Rattle.model.specs.Refusals.{is_state, is_reply}
 use Rattle.record.specs.Words.{held_outcome}

@@ -1,6 +1,6 @@
 -- What a record of any words means: `view` reads it as lists. A read past a row's end gives 0.
 use Rattle.std.specs.Prelude.{ℕ, ◌+◌, ◌*◌, eqb, get_or, replicate, take}
-use mathlib.Core.List.{List, [], ◌∷◌, map, foldr}
+use mathlib.Core.List.{List, map, foldr}
 use Rattle.std.proofs.lemmas.List.Edits.{sets}
 use Rattle.model.specs.Operations.{Outcome, pick}
 use Rattle.model.specs.Transactions.{State, Running, Finished, Failed, NoState, Reply, Held, Sent, NoReply, Uncommitted, Waiting, Engine}

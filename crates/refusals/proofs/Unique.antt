@@ -1,5 +1,5 @@
 -- Any two outcomes that the contracts of this crate's public functions allow are equal: what each returns and leaves in what was lent to it.
-use mathlib.Core.Path.{◌≡◌, refl}
+use mathlib.Core.Path.{refl}
 use Rattle.model.specs.declared.Scheme.TheVariants.{Speculation}
 use Rattle.model.proofs.Unique.{Unique}
 use Rattle.refusals.proofs.is_front.Kinds as is-front-kinds

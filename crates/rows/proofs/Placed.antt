@@ -1,5 +1,5 @@
 -- Where one that ran goes, by the tests that the code makes on rows.
-use Prim.Native.Nat.{ℕ, zero, suc, ◌*◌}
+use Prim.Native.Nat.{ℕ, suc, ◌*◌}
 use native.Mathlib.Omega.{arith}
 use borrow.Author.Tests.{ne_eqb}
 use mathlib.Core.Path.{◌≡◌, refl, sym, ap, ◌∙◌}
@@ -9,7 +9,7 @@ use lib.Dec.{eqb}
 use lib.ListN.{length, length-map}
 use Rattle.model.proofs.Chain.{all_left}
 use Rattle.model.specs.Operations.{pick, multi}
-use Rattle.model.specs.Transactions.{Reply, Held, Sent, Uncommitted, Waiting, Answer, answer}
+use Rattle.model.specs.Transactions.{Held, Sent, Uncommitted, Waiting, answer}
 use Rattle.model.specs.Refusals.{every}
 use Rattle.model.specs.Steps.{begun, one_coordinator, nearest, nearest_attempt, Place, placed}
 use Rattle.model.specs.Steps as Steps

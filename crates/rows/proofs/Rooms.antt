@@ -1,18 +1,18 @@
 -- Laws of the answer room and of the words that a run leaves.
-use Prim.Native.Nat.{ℕ, zero, suc, ◌+◌, ◌*◌, ◌-◌, ◌≤◌, ◌<◌}
+use Prim.Native.Nat.{ℕ, zero, suc, ◌+◌, ◌*◌, ◌-◌, ◌≤◌}
 use native.Mathlib.Omega.{arith}
-use mathlib.Core.Path.{◌≡◌, refl, sym, ap, ◌∙◌, subst}
+use mathlib.Core.Path.{◌≡◌, refl, sym, ap, ◌∙◌}
 use mathlib.Core.Bool.{Bool, true, false}
 use mathlib.Core.List.{List, [], ◌∷◌, ◌++◌, append_assoc, append-nil}
 use lib.Dec.{eqb}
-use lib.ListN.{length, get_or, take, drop, replicate, length-append, length-drop, length-take}
-use lib.Seq.{sets, sets-eq, take-append-le, take_at, drop_at, drop-drop, drop-append-add, take-append-add}
+use lib.ListN.{length, take, drop, replicate, length-append, length-drop, length-take}
+use lib.Seq.{sets, sets-eq, take_at, drop-drop, drop-append-add, take-append-add}
 use Rattle.model.specs.Operations.{Outcome, pick, last}
-use Rattle.model.specs.Transactions.{State, Running, Finished, Failed, Reply, Held, Sent, Uncommitted, Waiting, Answer, answer, words, all_words, filled}
+use Rattle.model.specs.Transactions.{State, Running, Finished, Failed, Held, Sent, Waiting, Answer, answer, words, all_words, filled}
 use Rattle.model.specs.Steps.{state_after, begun}
 use Rattle.model.specs.Steps as Steps
 use Rattle.model.specs.declared.Fragment.{Fragment}
-use Rattle.operations.specs.Laid.{padded, flat, laid, told}
+use Rattle.operations.specs.Laid.{padded, laid, told}
 use Rattle.operations.specs.declared.Ran.{Ran}
 use Rattle.operations.specs.declared.Told.{Told}
 use Rattle.operations.proofs.Turns.{told_of}

@@ -10,7 +10,6 @@ use lib.Dec.{leb, ltb, eqb}
 use lib.Bits.{bit_and, bit_or, or_add_and, and_le_l, and_le_r}
 use lib.ListN.{length, get_or, take, drop}
 use lib.Seq.{take_at, drop_at}
-use Rattle.model.specs.Limits.{most_operations}
 use Rattle.model.specs.Operations.{operations, multi, last}
 use Rattle.model.specs.Refusals.{every, formed_op, blank_op, formed_kind, formed, blank, inside, storable}
 use Rattle.model.specs.declared.Op.{Op}

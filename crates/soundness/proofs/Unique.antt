@@ -1,5 +1,5 @@
 -- Any two outcomes that the contracts of this crate's public functions allow are equal: what each returns and leaves in what was lent to it.
-use mathlib.Core.Path.{◌≡◌, refl}
+use mathlib.Core.Path.{refl}
 use Rattle.model.proofs.Unique.{Unique}
 use Rattle.soundness.proofs.is_storable.Kinds as is-storable-kinds
 use Rattle.soundness.proofs.is_storable.Reads as is-storable

@@ -3,7 +3,6 @@ use Rattle.std.specs.Prelude.{ℕ, zero, suc, ◌+◌, ◌*◌, ◌%◌, Bool, t
 use Rattle.model.specs.Limits.{most_live}
 use Rattle.model.specs.Refusals.{every, storable, formed_op, formed_kind}
 use Rattle.model.specs.declared.Op.{Op}
-use Rattle.model.specs.declared.Fragment.{Fragment}
 use Rattle.model.specs.declared.Undo.{Undo}
 use Rattle.operations.specs.Laid.{entries_of}
 use Rattle.record.specs.Walk.{walk, places}

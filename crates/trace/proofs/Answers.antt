@@ -1,12 +1,11 @@
 -- The line of an answer is read off the room that holds it.
-use Prim.Native.Nat.{ℕ, zero, suc, ◌+◌, ◌-◌, ◌*◌, ◌≤◌, ◌<◌, min}
+use Prim.Native.Nat.{ℕ, ◌+◌, ◌-◌, ◌*◌, ◌≤◌, min}
 use native.Mathlib.Omega.{arith}
 use mathlib.Core.Path.{◌≡◌, refl, sym, ap, ◌∙◌}
 use mathlib.Core.List.{List, [], ◌∷◌, ◌++◌, append_assoc}
-use lib.ListN.{length, get_or, take, drop, replicate, length-append, length-take, length-replicate}
+use lib.ListN.{length, get_or, take, drop, replicate, length-append, length-take}
 use lib.Seq.{get_or_at, get_or-append-add, take-append-add}
 use Rattle.model.specs.Limits.{most_operations, answer_words}
-use Rattle.model.specs.Operations.{Outcome}
 use Rattle.model.specs.Transactions.{Answer, answer, words, all_words, filled}
 use Rattle.trace.specs.Text.{decimal_by, decimal, fields_from, fields, line_from, line_e, told_from, line_a, answer_line, line_c}
 

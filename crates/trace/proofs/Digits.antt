@@ -7,8 +7,7 @@ use mathlib.Core.Path.{◌≡◌, refl, sym, ap, ◌∙◌}
 use mathlib.Core.Bool.{Bool, true, false, ◌&&◌}
 use mathlib.Core.List.{List, [], ◌∷◌, ◌++◌}
 use lib.Dec.{leb, ltb}
-use lib.ListN.{length, get_or, set, length-append, get_or-append}
-use lib.Seq.{sets, set_comm}
+use lib.ListN.{length, get_or, get_or-append}
 use borrow.Author.Tests.{ltb-true, ltb-false, lt-ltb, le-ltb, le-leb}
 use Rattle.model.specs.Refusals.{every}
 use Rattle.trace.specs.Text.{decimal_by, decimal, value_after, value}

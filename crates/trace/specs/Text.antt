@@ -1,7 +1,7 @@
 -- Document 01, "The trace program": the lines that it prints, as bytes. A number past a row's end is 0.
-use Rattle.std.specs.Prelude.{ℕ, zero, suc, ◌+◌, ◌-◌, ◌*◌, ◌/◌, ◌%◌, min, Bool, List, [], ◌∷◌, ◌++◌, ltb, length, get_or}
+use Rattle.std.specs.Prelude.{ℕ, zero, suc, ◌+◌, ◌-◌, ◌*◌, ◌/◌, ◌%◌, min, List, [], ◌∷◌, ◌++◌, ltb, length, get_or}
 use Rattle.model.specs.Limits.{most_operations, answer_words}
-use Rattle.model.specs.Operations.{Outcome, pick}
+use Rattle.model.specs.Operations.{pick}
 use Rattle.model.specs.Transactions.{Answer}
 
 -- the decimal digits of n, one and at most f more

@@ -1,7 +1,6 @@
-use mathlib.Core.Path.{◌≡◌, sym, ◌∙◌}
+use mathlib.Core.Path.{sym, ◌∙◌}
 use mathlib.Core.Bool.{true≢false}
 use lib.Pointwise.{bytes_decides}
-use Rattle.listing.specs.Chosen.{speculation_word, blocking_word}
 use Rattle.listing.proofs.Chosen.{none_chosen, speculation_chosen, blocking_chosen, none_known}
 use Rattle.listing.proofs.scheme_of.Goals as goal
 

@@ -1,4 +1,3 @@
-
 use Rattle.operations.proofs.entry_at.Goals as goal
 
 pub returns : goal.returns

@@ -1,6 +1,5 @@
 use Prim.Native.Nat.{◌-◌, ◌≤◌}
 use mathlib.Core.Path.{◌≡◌}
-use mathlib.Core.List.{[]}
 use lib.ListN.{length, drop}
 use Rattle.model.specs.Refusals.{every, blank_op}
 use Rattle.operations.proofs.ops_blank.Given as goal

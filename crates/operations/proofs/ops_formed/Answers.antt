@@ -4,7 +4,6 @@ use Rattle.operations.proofs.Walks.{walk_end, walk_on, walk_stops}
 use Prim.Native.Nat.{ℕ}
 use native.Mathlib.Omega.{arith}
 use mathlib.Core.Path.{◌≡◌, sym, ◌∙◌, ap}
-use mathlib.Core.List.{[]}
 use lib.ListN.{length, take, get_or}
 use Rattle.model.specs.Refusals.{every, formed_op}
 use borrow.Author.Rules.{rules}

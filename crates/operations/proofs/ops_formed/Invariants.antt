@@ -1,6 +1,5 @@
 use Prim.Native.Nat.{◌-◌, ◌≤◌}
 use mathlib.Core.Path.{◌≡◌}
-use mathlib.Core.List.{[]}
 use lib.ListN.{length, take, drop}
 use Rattle.model.specs.Refusals.{every, formed_op}
 use Rattle.operations.proofs.ops_formed.Given as goal

@@ -1,7 +1,6 @@
 use Prim.Native.Nat.{◌-◌, ◌≤◌}
 use mathlib.Core.Path.{◌≡◌}
 use lib.ListN.{length, take}
-use mathlib.Core.List.{[]}
 use Rattle.operations.proofs.Turns.{Going}
 use Rattle.operations.proofs.run_fragment.Given as goal
 

@@ -2,7 +2,6 @@ use Rattle.operations.specs.Words.{fragment_at}
 use Prim.Native.Nat.{◌-◌, ◌≤◌}
 use mathlib.Core.Path.{◌≡◌}
 use lib.ListN.{length, take}
-use mathlib.Core.List.{[]}
 use Rattle.operations.proofs.Turns.{Going}
 use Rattle.operations.proofs.run_words.Given as goal
 
