@@ -4,9 +4,9 @@
 
 ghost use Rattle.std.specs.Prelude.{◌≤◌, ◌<◌};
 
-use libc::STDOUT_FILENO;
 use model::{Event, Fragment, Op};
 use record::{Counts, Record};
+use std::io::Write;
 
 // What a case changes in the record of `base`: a word at a place, and one more. Place 2484 is none.
 #[derive(Clone, Copy)]
@@ -873,7 +873,7 @@ fn lendings(out: &mut [u8], from: u32, r: Record) -> u32 {
     unfit(out, d)
 }
 
-fn main() {
+fn main(rt: HostRuntime) {
     let mut out = [0u8; 4096];
     let mut cells = [5u32, 10, 0, 7];
     let mut room = [0u32; 1024];
@@ -881,6 +881,6 @@ fn main() {
     let a = cases(&mut out, r, &mut cells, &mut room);
     let b = lendings(&mut out, a, r);
     if b <= 4096 {
-        io::write_all(STDOUT_FILENO, &out[..b as usize]);
+        let _written = rt.stdout().write_all(&out[..b as usize]);
     }
 }

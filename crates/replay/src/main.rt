@@ -3,34 +3,51 @@
 // of `listing::put_listing`.
 #![tactic(auto)]
 
-ghost use Rattle.io.specs.Counts.{IsPrefixLen};
+ghost use Rattle.std.specs.Prelude.{◌≤◌, ◌≡◌, length, take};
 
-use libc::{STDIN_FILENO, STDOUT_FILENO};
+use std::env::{Env, FillError};
+use std::io::{Read, Write};
 
 // Puts the command's word at the start of a buffer and answers its length, 0 where there is none. One that is too long for the buffer fills
 // it, so that it is not taken for none; no scheme has a name of 16 bytes.
-fn take_word(word: &mut [u8; 16]) -> usize
-    ensures { IsPrefixLen result word.new }
+fn take_word(rt: &impl Env, word: &mut [u8; 16]) -> usize
+    ensures in_bounds { result ≤ length word.new }
+    ensures is_prefix { result ≡ length (take result word.new) }
 {
-    let n = os::arg(1, word);
-    if os::errno() == libc::ENAMETOOLONG {
-        return 16;
+    match rt.arg(1, word) {
+        Ok(n) => n,
+        Err(FillError::TooLong) => 16,
+        Err(FillError::NotPresent) => 0,
     }
-    n
+}
+
+// Reads until the buffer is full, the input ends or a read fails, and answers how many bytes it put at the start of the buffer.
+fn read_full(input: &mut impl Read, bytes: &mut [u8]) -> usize
+    ensures in_bounds { result ≤ length bytes.new }
+    ensures is_prefix { result ≡ length (take result bytes.new) }
+{
+    let mut done = 0;
+    while done < bytes.len() {
+        match input.read(&mut bytes[done..]) {
+            Ok(0) | Err(_) => break,
+            Ok(n) => done += n,
+        }
+    }
+    done
 }
 
 // Writes the text, a buffer of it at a time; stops where a write fails.
-fn write_listing(word: &[u8], bytes: &[u8]) {
-    let mut text = io::large_buffer();
+fn write_listing(output: &mut impl Write, word: &[u8], bytes: &[u8]) {
+    let mut text = [0u8; 65536];
     let mut from: usize = 0;
     let mut all = listing::put_listing(word, bytes, 0, &mut text);
     while from < all {
         let left = all - from;
         if left <= 65536 {
-            io::write_all(STDOUT_FILENO, &text[..left]);
+            let _last = output.write_all(&text[..left]);
             return;
         }
-        if !io::write_all(STDOUT_FILENO, &text) {
+        if output.write_all(&text).is_err() {
             return;
         }
         from = from + 65536;
@@ -39,10 +56,10 @@ fn write_listing(word: &[u8], bytes: &[u8]) {
 }
 
 // Reads until the end of the input or until the buffer is full: the largest trace has 46,096 bytes, so one that fills it is bad.
-fn main() {
+fn main(rt: HostRuntime) {
     let mut word = [0u8; 16];
-    let w = take_word(&mut word);
-    let mut bytes = io::large_buffer();
-    let n = io::read_full(STDIN_FILENO, &mut bytes);
-    write_listing(&word[..w], &bytes[..n]);
+    let w = take_word(&rt, &mut word);
+    let mut bytes = [0u8; 65536];
+    let n = read_full(&mut rt.stdin(), &mut bytes);
+    write_listing(&mut rt.stdout(), &word[..w], &bytes[..n]);
 }
