@@ -342,7 +342,7 @@ fn rattle_functions() -> BTreeMap<String, Function> {
     let pieces: Vec<_> = source.split("pub extern \"C\" fn ").collect();
     for (before, piece) in pieces.iter().zip(&pieces[1..]) {
         let (name, rest) = piece.split_once('(').expect("parameters");
-        assert!(before.trim_end().ends_with("#[no_mangle]"), "{name} is not exported by its name");
+        assert!(before.trim_end().ends_with("#[unsafe(no_mangle)]"), "{name} is not exported by its name");
         let (list, rest) = rest.split_once(')').expect("the parameters' end");
         let returns = rest.trim_start().strip_prefix("->").expect("a returned type").split_whitespace().next();
         assert_eq!(returns, Some("u32"), "{name}");
