@@ -1,3 +1,4 @@
 pub mod Events
 pub mod Demanding
 pub mod Unique
+pub mod Apart
