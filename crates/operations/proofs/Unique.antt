@@ -2,11 +2,11 @@
 use mathlib.Core.Path.{◌≡◌, refl}
 use Rattle.model.proofs.Unique.{Unique}
 use Rattle.operations.proofs.is_known.Kinds as is-known-kinds
-use Rattle.operations.proofs.is_known.Reads as is_Known
+use Rattle.operations.proofs.is_known.Reads as is_known
 use Rattle.operations.proofs.uses_amount.Kinds as uses-amount-kinds
 use Rattle.operations.proofs.uses_amount.Reads as uses-amount
 use Rattle.operations.proofs.may_write.Kinds as may-write-kinds
-use Rattle.operations.proofs.may_write.Reads as may_write_lem
+use Rattle.operations.proofs.may_write.Reads as may_write
 use Rattle.operations.proofs.may_fail.Kinds as may-fail-kinds
 use Rattle.operations.proofs.may_fail.Reads as may_fail
 use Rattle.operations.proofs.apply.Kinds as apply-kinds
@@ -36,13 +36,13 @@ use Rattle.operations.proofs.is_blank_op.Reads as is-blank-op
 use Rattle.operations.proofs.is_formed.Kinds as is-formed-kinds
 use Rattle.operations.proofs.is_formed.Reads as is-formed
 
-pub is_known_unique : Unique is-known-kinds.ps is-known-kinds.r is_Known.Learnt
+pub is_known_unique : Unique is-known-kinds.ps is-known-kinds.r is_known.Learnt
 is_known_unique κs a z z' ws ws' p q = (cc, refl)
 
 pub uses_amount_unique : Unique uses-amount-kinds.ps uses-amount-kinds.r uses-amount.Learnt
 uses_amount_unique κs a z z' ws ws' p q = (cc, refl)
 
-pub may_write_unique : Unique may-write-kinds.ps may-write-kinds.r may_write_lem.Learnt
+pub may_write_unique : Unique may-write-kinds.ps may-write-kinds.r may_write.Learnt
 may_write_unique κs a z z' ws ws' p q = (cc, refl)
 
 pub may_fail_unique : Unique may-fail-kinds.ps may-fail-kinds.r may_fail.Learnt

@@ -17,7 +17,7 @@ use Rattle.model.proofs.Sound.{sound_parts, parts_sound}
 use Rattle.record.specs.Words.{live_rows}
 use Rattle.record.specs.View.{fragment_at, attempt_at, waiting_of, member_at, state_of, uncommitted_of, view_of}
 use Rattle.record.proofs.Queues.{length_waiting, length_uncommitted, rows_live, entries_all, numbers_rows, attempts_rows, all-rows, rows_all}
-use Rattle.soundness.specs.Groups.{row_ok, live_from, front_ok, next_ok, follows_ok, behind_from, members_ok, totalFrom, undo_ok, groups}
+use Rattle.soundness.specs.Groups.{row_ok, live_from, front_ok, next_ok, follows_ok, behind_from, members_ok, total_from, undo_ok, groups}
 use Rattle.soundness.proofs.Words.{same, finished_words, Run, member_state, next_one, one_next, next_run, next_ran, front_run, front_good, front_one, one_front}
 use Rattle.model.specs.Parts.{All, cell_inside, SoundOne, Stored, bad_front, Ahead, Sound}
 use Rattle.record.specs.Widths.{live_width, run_width}
@@ -181,7 +181,7 @@ module _ (count largest uncommitted waiting : ℕ) (live runs undo : List ℕ) w
   a5 = members_ok live runs uncommitted
 
   abbrev a6 : Bool
-  a6 = undo_ok count undo 0 (totalFrom runs 0 uncommitted)
+  a6 = undo_ok count undo 0 (total_from runs 0 uncommitted)
 
   -- both queues are one list of rows
   rows : live_rows us ws ≡ waiting_of live 0 (uncommitted + waiting)

@@ -7,7 +7,7 @@ use Rattle.model.specs.declared.Undo.{Undo}
 use Rattle.operations.specs.Laid.{entries_of}
 use Rattle.record.specs.Walk.{walk, places}
 use Rattle.record.specs.View.{op_at, fragment_at, attempt_at}
-unfoldable pub use Rattle.record.specs.View.{entries_from as totalFrom}
+unfoldable pub use Rattle.record.specs.View.{entries_from as total_from}
 use Rattle.record.specs.Widths.{op_width, live_width, run_width}
 
 abbrev pub is_zero : ℕ → Bool
@@ -93,4 +93,4 @@ groups count largest uncommitted waiting live runs undo =
     leb count 4096 && leb uncommitted 16 && leb (uncommitted + waiting) 64
     && live_from largest count live 0 (uncommitted + waiting) 0 0
     && members_ok live runs uncommitted
-    && undo_ok count undo 0 (totalFrom runs 0 uncommitted)
+    && undo_ok count undo 0 (total_from runs 0 uncommitted)

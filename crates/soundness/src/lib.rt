@@ -6,7 +6,7 @@ ghost use Rattle.record.specs.Widths.{ops_end};
 ghost use Rattle.std.specs.Prelude.{◌≡◌, ◌&&◌, ◌+◌, ◌*◌, ◌-◌, ◌≤◌, length};
 ghost use Rattle.model.specs.Refusals.{every, formed, blank, storable, sound};
 ghost use Rattle.record.specs.View.{fragment_at, numbers_from, view_by};
-ghost use Rattle.soundness.specs.Groups.{is_zero, ops_from, storable_op, kind_ok, row_ok, live_from, reply_ok, run_ok, front_ok, next_ok, behind_from, members_ok, totalFrom, undo_ok};
+ghost use Rattle.soundness.specs.Groups.{is_zero, ops_from, storable_op, kind_ok, row_ok, live_from, reply_ok, run_ok, front_ok, next_ok, behind_from, members_ok, total_from, undo_ok};
 
 use model::Op;
 use record::Counts;
@@ -305,7 +305,7 @@ pub(crate) fn members_ok(live: &[u32], runs: &[u32], n: u32) -> bool
 // How many undo entries the first n runs own.
 pub(crate) fn total(runs: &[u32], n: u32) -> usize
     requires { n ≤ 16 }
-    ensures { (result ≡ totalFrom runs.now 0 n) × (result ≤ 68719476736) }
+    ensures { (result ≡ total_from runs.now 0 n) × (result ≤ 68719476736) }
 {
     let mut c: usize = 0;
     let mut left = n;
