@@ -38,16 +38,20 @@ fn number(text: &str) -> u64 {
     digits.parse().unwrap_or_else(|_| panic!("`{text}` is not a plain number"))
 }
 
-/// `pub const NAME: TYPE = VALUE;`
+/// `pub const NAME: TYPE = VALUE;`, where the value is a number, or a constant before it as another type.
 fn constants(source: &str) -> BTreeMap<String, u64> {
-    let lines = source.lines().filter_map(|line| line.trim().strip_prefix("pub const "));
-    lines
-        .map(|line| {
-            let (name, rest) = line.split_once(':').expect("a constant's type");
-            let (_, value) = rest.split_once('=').expect("a constant's value");
-            (name.trim().into(), number(value.trim_end_matches(';')))
-        })
-        .collect()
+    let mut found: BTreeMap<String, u64> = BTreeMap::new();
+    for line in source.lines().filter_map(|line| line.trim().strip_prefix("pub const ")) {
+        let (name, rest) = line.split_once(':').expect("a constant's type");
+        let (_, value) = rest.split_once('=').expect("a constant's value");
+        let value = value.trim().trim_end_matches(';');
+        let value = match value.split_once(" as ") {
+            Some((other, _)) => found[other],
+            None => number(value),
+        };
+        found.insert(name.trim().into(), value);
+    }
+    found
 }
 
 /// `#define HARUKDALIS_NAME VALUE`, by the name without its prefix.

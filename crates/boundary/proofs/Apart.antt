@@ -3,17 +3,17 @@
 --     apart        the record's cell, with what it owns, gives the parts and the way back
 --     together     the parts at any record d, with the way back, give the cell of d
 -- Assumes `Logic`.
-use mathlib.Core.Path.{◌≡◌, refl, ap, sym, subst}
+use mathlib.Core.Path.{◌≡◌, refl, subst}
 use Prim.Native.Nat.{ℕ, ◌+◌, ◌*◌}
-use mathlib.Core.List.{List, [], ◌∷◌, map}
+use mathlib.Core.List.{List, [], ◌∷◌}
 use seplogic.Ra.Ura.{Ura}
 use base.Fraction.{full_share}
 use mir.Syntax.{w32, ty_int, ty_array}
 use mir.Val.{Val}
-use base.Logic.{SProp, ent, sep, ex, wand, via, id⊢, comm∗, wand_e, all_e}
-use base.Fml.{Fml, ftrue, fsep}
+use base.Logic.{SProp, ent, sep, ex, wand, id⊢, wand_e, all_e}
+use base.Fml.{Fml, fsep}
 use types.Logic.{Logic, sem}
-use types.Kit.{Item, ⋆, ‵, raw, some, ◌⊛◌, ◌$◌, ◌∵◌, !, qed, move, drop, use1, use2, split, join, fsplit, fjoin, fpick, fpack, frame, show, done}
+use types.Kit.{Item, ⋆, ‵, raw, some, ◌⊛◌, ◌$◌, ◌∵◌, !, qed, move, drop, use1, use2, split, fsplit, fjoin, fpack, frame, done}
 use denote.RattleType.{Denots}
 use denote.Memory.{cell_at, part_at, part_of}
 use denote.Builtin.{u32}

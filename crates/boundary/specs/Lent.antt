@@ -2,7 +2,7 @@
 use Rattle.std.specs.Prelude.{ℕ, ◌≡◌}
 use Rattle.record.specs.declared.Record.{Record}
 use Rattle.record.specs.Start.{fresh_of}
-use Rattle.engine.specs.declared.Called.{Called}
+use Rattle.engine.specs.Called.{Called}
 
 -- the number returned and the record left by starting
 abbrev pub started : ℕ → ℕ → Record → Type 0

@@ -13,7 +13,7 @@ ghost use Rattle.boundary.specs.Lent.{started, called_with};
 use model::Scheme;
 use record::Record;
 
-// One call by a scheme on a lent record: its rows are lent on where they stand, and its counts are stored.
+// One call by a scheme on a lent record: it is lent on where it stands, the count of answers is stored, and the number is returned.
 pub(crate) fn call_on(
     scheme: Scheme,
     r: &mut Record,
@@ -25,19 +25,12 @@ pub(crate) fn call_on(
     ensures { Leaves scheme r.old (event_of event.now) cells.old room.old
         (called_with result answers.new r.new) cells.new room.new }
 {
-    let t = engine::call_lent(
-        scheme,
-        r.counts,
-        &mut r.live,
-        &mut r.runs,
-        &mut r.undo,
-        cells,
-        event,
-        room,
-    );
-    r.counts = t.counts;
-    *answers = t.answers;
-    t.number
+    let done = engine::call_lent(scheme, r, cells, event, room);
+    *answers = done.unwrap_or(0);
+    match done {
+        Ok(_) => 0,
+        Err(e) => e.into(),
+    }
 }
 
 // Starts a record of so many cells, whatever it held.

@@ -15,7 +15,7 @@ use Rattle.model.specs.declared.Fragment.{Fragment}
 use Rattle.model.specs.declared.Scheme.{Scheme}
 use Rattle.model.specs.declared.Event.{Event}
 use Rattle.model.specs.declared.Undo.{Undo}
-use Rattle.model.specs.declared.Did.TheVariants.{Number, Fails}
+use Rattle.std.specs.Prelude.{Ok, Err}
 use Rattle.model.proofs.Branches.{placed_idle, placed_behind, released_cases, settled_cases, drain_cases, held_cases, request_cases}
 use Rattle.model.proofs.Chain.{all_append}
 use Rattle.record.specs.Words.{live_rows, held_outcome}
@@ -42,11 +42,11 @@ run_few p [] cs ns us = omega arith
 run_few p (o ∷ os) cs ns us =
     elim (operate o cs)
     as (λ d. length (elim d as (λ _. Ran) [
-      | Number y ↦ run_from (suc p) os (put o y cs) (ns ++ (y ∷ [])) (noted o cs us)
-      | Fails x ↦ record { cells = undone us cs; outcome = tells p (Fails x); undo = [] }
+      | Ok y ↦ run_from (suc p) os (put o y cs) (ns ++ (y ∷ [])) (noted o cs us)
+      | Err x ↦ record { cells = undone us cs; outcome = tells p (Err x); undo = [] }
     ]).outcome.numbers ≤ length ns + suc (length os)) [
-      | Number y ↦ omega (arith, run_few (suc p) os (put o y cs) (ns ++ (y ∷ [])) (noted o cs us), length-append ns (y ∷ []))
-      | Fails x ↦ omega arith
+      | Ok y ↦ omega (arith, run_few (suc p) os (put o y cs) (ns ++ (y ∷ [])) (noted o cs us), length-append ns (y ∷ []))
+      | Err x ↦ omega arith
     ]
 
 pub run_small : (f : Fragment) (cs : Cells) (us : List Undo) → length f.row ≡ 8 → length (run f cs us).outcome.numbers ≤ 8

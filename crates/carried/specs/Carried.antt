@@ -13,8 +13,7 @@ use Rattle.record.specs.declared.Record.{Record}
 use Rattle.record.specs.Words.{pack}
 use Rattle.record.specs.View.{view, numbers_from}
 use Rattle.record.specs.Start.{fresh_of}
-use Rattle.engine.specs.Called.{called, cells_after, room_after}
-use Rattle.engine.specs.declared.Called.{Called}
+use Rattle.engine.specs.Called.{Called, called, cells_after, room_after}
 
 -- an event is 29 words: its row has eight places
 abbrev pub Words : Event → Type 0

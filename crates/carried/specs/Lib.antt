@@ -1,3 +1,4 @@
+pub mod Reported
 pub mod Carried
 pub mod Agreed
 pub mod Merged

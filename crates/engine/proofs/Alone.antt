@@ -36,8 +36,7 @@ use Rattle.record.proofs.Viewed.{view_count, view_waits}
 use Rattle.rows.specs.declared.Trial.{Trial}
 use Rattle.rows.specs.Rows.{first_trial, no_trial, told_row}
 use Rattle.rows.proofs.Rooms.{told_room}
-use Rattle.engine.specs.declared.LentCall.{LentCall}
-use Rattle.engine.specs.Called.{reached, Leaves, record_by, lent_call, settled_alone}
+use Rattle.engine.specs.Called.{Called, reached, Leaves, record_by, settled_alone}
 use Rattle.engine.proofs.Accepting.{request_arrive}
 use Rattle.engine.proofs.Calling.{leaves_by, filled_none, largest_by_lem}
 use Rattle.engine.proofs.Draining.{drain_takes}
@@ -138,14 +137,14 @@ module _ (σ : Scheme) (r : Record) (v : Event) (cells room : List ℕ) (z : ref
       answered = er ∙ told_room [] own no_trial (run v.fragment cells []) t room room 0 et few (filled_none room) refl (omega (arith, ltb-false (length room) least_room p.two))
 
 -- the same of an event's words
-pub idle_words : (σ : Scheme) (r : Record) (l cells room live' cells' room' : List ℕ) (d : LentCall) → refusal (view r) (call_of σ (event_of l) cells room) ≡ 0
+pub idle_words : (σ : Scheme) (r : Record) (l cells room cells' room' : List ℕ) (d : Called) → refusal (view r) (call_of σ (event_of l) cells room) ≡ 0
     → (eqb r.counts.uncommitted 0 && (eqb r.counts.waiting 0 && eqb (get_or l 2 0) 2)) ≡ true → length r.live ≡ live_length
-    → d ≡ settled_alone r.counts (get_or l 1 0) → live' ≡ shifted r.live live_width live_width → cells' ≡ (run (fragment_at l 1) cells []).cells
-    → room' ≡ sets room 0 (told_row (first_trial l 1) no_trial (told (run (fragment_at l 1) cells []))) → Leaves σ r (event_of l) cells room (lent_call d live' r.runs r.undo) cells' room'
+    → d ≡ settled_alone r (get_or l 1 0) → cells' ≡ (run (fragment_at l 1) cells []).cells
+    → room' ≡ sets room 0 (told_row (first_trial l 1) no_trial (told (run (fragment_at l 1) cells []))) → Leaves σ r (event_of l) cells room d cells' room'
 unfolding event_of fragment_at multi
-idle_words σ r l cells room live' cells' room' d z h hl ed el ec er =
+idle_words σ r l cells room cells' room' d z h hl ed ec er =
     let t : (eqb r.counts.waiting 0 && eqb (get_or l 2 0) 2) ≡ true = and_right (eqb r.counts.uncommitted 0) _ h in
     let flags : get_or l 2 0 ≡ 2 = eqb-true (get_or l 2 0) 2 (and_right (eqb r.counts.waiting 0) _ t) in
-    subst (λ (x : LentCall). Leaves σ r (event_of l) cells room (lent_call x live' r.runs r.undo) cells' room') (sym ed)
+    subst (λ (x : Called). Leaves σ r (event_of l) cells room x cells' room') (sym ed)
     (idle_call σ r (event_of l) cells room z (eqb-true r.counts.uncommitted 0 (and_left (eqb r.counts.uncommitted 0) _ h)) (eqb-true r.counts.waiting 0 (and_left (eqb r.counts.waiting 0) _ t)) (ap (λ (x : ℕ). eqb (x % 2) 1) flags)
-    live' cells' room' _ (told (run (fragment_at l 1) cells [])) refl hl el refl ec er refl)
+    _ cells' room' _ (told (run (fragment_at l 1) cells [])) refl hl refl refl ec er refl)

@@ -4,6 +4,7 @@ use native.Mathlib.Omega.{arith}
 use borrow.Author.Tests.{ltb-false, not-false}
 use mathlib.Core.Path.{◌≡◌, refl, sym, ap, ◌∙◌, subst}
 use mathlib.Core.Bool.{Bool, true, false, ◌&&◌}
+use Rattle.std.specs.Prelude.{Err}
 use mathlib.Core.List.{List, [], ◌∷◌, ◌++◌, map}
 use lib.Dec.{eqb, ltb}
 use lib.ListN.{length, length-append, length-map, length-replicate}
@@ -18,6 +19,8 @@ use Rattle.model.specs.declared.Scheme.{Scheme}
 use Rattle.model.proofs.Branches.{request_cases}
 use Rattle.model.proofs.Passing.{passed}
 use Rattle.refusals.specs.Rest.{call_of}
+use Rattle.refusals.specs.declared.Refusal.{Refusal}
+use Rattle.refusals.proofs.Numbers.{number_not_0}
 use Rattle.record.specs.declared.Counts.{Counts}
 use Rattle.record.specs.declared.Record.{Record}
 use Rattle.record.specs.Ends.{largest_at, largest_by}
@@ -31,9 +34,8 @@ use Rattle.tidy.specs.Tidied.{Canonical}
 use Rattle.tidy.proofs.Members.{few_uncommitted, few_entries, few_runs_lem, canonical}
 use Rattle.engine.specs.Work.{Ground, total, Left}
 use Rattle.engine.specs.declared.course.Course.{Course}
-use Rattle.engine.specs.Called.{stepped, reached, next_of, called, Leaves, record_by}
+use Rattle.engine.specs.Called.{Called, stepped, reached, next_of, called, Leaves, record_by, told_by}
 use Rattle.engine.specs.Ready.{Ready}
-use Rattle.engine.specs.declared.Called.{Called}
 use Rattle.record.proofs.Viewed.{First, view_count, view_waits, view_first, view_waiting}
 use Rattle.model.specs.Parts.{All, Passed}
 use Rattle.record.specs.Fitting.{Eight}
@@ -52,6 +54,19 @@ pub refused_call : (σ : Scheme) (r : Record) (v : Event) (cells room : List ℕ
     → Leaves σ r v cells room (record { number = k; answers = 0; next = r }) cells room
 refused_call σ r v cells room zero e ne = absurd (ne refl)
 refused_call σ r v cells room (suc k) e ne = leaves_by σ r v cells room (record { number = suc k; answers = 0; next = r }) cells room (suc k) (sym e) (refl, refl, refl)
+
+-- the record that a refusal leaves is the one that came
+pub refused_stays : (σ : Scheme) (r : Record) (v : Event) (cells room : List ℕ) → ((called σ r v cells room).number ≡ 0 → ⊥) → (called σ r v cells room).next ≡ r
+unfolding called
+refused_stays σ r v cells room = go _ (stepped σ r v cells room).number
+  where
+    go : (x : Record) (k : ℕ) → (k ≡ 0 → ⊥) → ◌≡◌ {A = Record} (elim k [ zero ↦ x | suc j ↦ r ]) r
+    go x zero h = absurd (h refl)
+    go x (suc k) h = refl
+
+pub refused_record : (σ : Scheme) (r r' : Record) (v : Event) (cells room : List ℕ) (e : Refusal) → told_by (Err e) r' ≡ called σ r v cells room → r' ≡ r
+refused_record σ r r' v cells room e t =
+    ap (λ (d : Called). d.next) t ∙ refused_stays σ r v cells room (λ z. number_not_0 e (ap (λ (d : Called). d.number) t ∙ z))
 
 -- no answers fill nothing
 pub filled_none : (room : List ℕ) → room ≡ filled [] room

@@ -93,11 +93,11 @@ first_is : (u : Uncommitted) → get_or (run_words u) 0 0 ≡ u.ran
 unfolding run_words
 first_is u = refl
 
-module _ (live runs undo room runs' undo' room' : List ℕ) (cells cells' : Cells) (c c' : Course) (f : Fragment) (own none : Trial) (entries : ℕ) (r : Ran) (fair : Fair c) (some : 0 < c.counts.uncommitted)
-    (en : own ≡ trial_at live (live_width * c.first)) (ez : none ≡ no_trial) (er : r ≡ laid (run f cells [])) (ec : cells' ≡ (run f cells (entries_of undo 0 c.entries)).cells)
+module _ (live runs undo room runs' undo' room' : List ℕ) (cells cells' : Cells) (c c' : Course) (f : Fragment) (own : Trial) (entries : ℕ) (r : Ran) (fair : Fair c) (some : 0 < c.counts.uncommitted)
+    (en : own ≡ trial_at live (live_width * c.first)) (er : r ≡ laid (run f cells [])) (ec : cells' ≡ (run f cells (entries_of undo 0 c.entries)).cells)
     (een : entries ≡ pick (eqb r.place 0) (c.entries + r.entries) 0)
     (eu : undo' ≡ pick (eqb r.place 0) (sets undo (2 * c.entries) (numbers_from r.undo 0 (2 * r.entries))) (shifted undo (2 * c.entries) (2 * c.entries)))
-    (eruns : runs' ≡ sets runs 0 (again_row runs f r.place entries)) (eroom : room' ≡ with_answer c.answers own none r room)
+    (eruns : runs' ≡ sets runs 0 (again_row runs f r.place entries)) (eroom : room' ≡ with_answer c.answers own no_trial r room)
     (ecounts : c' ≡ record { counts = c.counts; first = c.first; entries = entries; answers = c.answers + 1 }) where
   pub continued : Continued live runs undo room cells c f runs' undo' room' cells' c'
   unfolding laid
@@ -187,7 +187,7 @@ module _ (live runs undo room runs' undo' room' : List ℕ) (cells cells' : Cell
           ∙ trial_back came.live gone (row_of u) (live_rows [] ws) (live_width * c.first) (all_left Eight gone (live_rows (u ∷ []) ws) k.eights) (all_right Eight gone (live_rows (u ∷ []) ws) k.eights).0 (ap (λ (x : ℕ). live_width * x) k.first)
 
       room_is : room' ≡ filled (sent ++ (answer u.number 0 u.attempt 0 (run f cells u.undo).outcome ∷ [])) came.room
-      room_is = eroom ∙ (λ i. with_answer c.answers (own_is i) (ez i) r room)
+      room_is = eroom ∙ (λ i. with_answer c.answers (own_is i) no_trial r room)
           ∙ answered_room sent (trial_of (row_of u)) no_trial (run f cells []) r room came.room c.answers er (omega (arith, run_numbers f cells, few_operations f eight)) k.at_room k.answers (omega (arith, came.enough, fair.answers, some))
           ∙ ap (λ (o : Outcome). filled (sent ++ (answer u.number 0 u.attempt 0 o ∷ [])) came.room) (sym tells)
 

@@ -8,3 +8,4 @@ pub mod Deciding
 pub mod Accepting
 pub mod Calling
 mod Alone
+mod Asked

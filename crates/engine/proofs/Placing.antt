@@ -24,11 +24,13 @@ use Rattle.record.specs.View.{fragment_at, numbers_from}
 use Rattle.record.proofs.Rows.{lay_over, numbers_padded}
 use Rattle.record.proofs.Back.{known_of, fragment_back, length_run, length_runs, runs_append, undo_append, flat_append, length-flat}
 use Rattle.engine.specs.declared.course.Course.{Course}
-use Rattle.engine.specs.Work.{Ground, runs_ground, undo_ground, Work, Left, joined_by, settled_at_once, with_answers, Small}
+use Rattle.engine.specs.Work.{Ground, runs_ground, undo_ground, Work, Left, joined_by, settled_at_once, with_answers, Small, Took}
 use Rattle.rows.specs.declared.Trial.{Trial}
-use Rattle.rows.specs.Rows.{trial_at, no_trial, one_rows, near_rows, answered_now, joins_queue, begun_row, with_answer}
+use Rattle.std.specs.Prelude.{None}
+use Rattle.rows.specs.declared.Placement.{Placement}
+use Rattle.rows.specs.Rows.{trial_at, no_trial, trial_or_none, one_rows, near_rows, nearest_rows, answered_now, joins_queue, begun_row, placement_row, with_answer}
 use Rattle.rows.proofs.Placed.{placed_by, one_back, nearest_trial, near_all}
-use Rattle.rows.proofs.Reading.{trial_of, trial_back}
+use Rattle.rows.proofs.Reading.{trial_of, trial_back, near_rows_by}
 use Rattle.rows.proofs.Rooms.{answered_room, begun_words}
 use Rattle.model.specs.Parts.{All, Sound}
 use Rattle.record.specs.Fitting.{Eight, Fit, Known}
@@ -42,22 +44,22 @@ rows_joined [] w ws v e = ap {B = List Waiting} (λ (x : Waiting). x ∷ ws) e
 rows_joined (u ∷ us) w ws v e = ap {B = List Waiting} (λ (x : List Waiting). row_of u ∷ x) (rows_joined us w ws v e)
 
 -- what turn's callees say: transaction and fragment of the first waiting one, its run, the tests, and what they left
-pub record Facts (live runs undo room : List ℕ) (cells : Cells) (c : Course) (own : Trial) (f : Fragment) (r : Ran) (m la one ans joins : Bool) (near : Trial) (a' : ℕ) (runs' undo' room' : List ℕ) (cells' : Cells) (c' : Course) : Type 0 where
-  pub tried : own ≡ trial_at live (live_width * (c.first + c.counts.uncommitted))
-  pub fragment : f ≡ fragment_at live (live_width * (c.first + c.counts.uncommitted))
-  pub ran : r ≡ laid (run f cells [])
-  pub stands : cells' ≡ (run f cells []).cells
-  pub multi : m ≡ multi f
-  pub last : la ≡ last f
-  pub is_one : one ≡ one_rows live (live_width * c.first) c.counts.uncommitted f.coordinator
-  pub is_near : ans ≡ true → near ≡ near_rows no_trial live (live_width * c.first) c.counts.uncommitted
-  pub is_ans : ans ≡ answered_now c.counts.uncommitted m one
-  pub is_joins : joins ≡ joins_queue c.counts.uncommitted m
-  pub count : a' ≡ pick ans (c.answers + 1) c.answers
-  pub is_room : room' ≡ pick ans (with_answer c.answers own near r room) room
-  pub is_runs : runs' ≡ pick joins (sets runs (run_width * c.counts.uncommitted) (begun_row (not ans) la r)) runs
-  pub is_undo : undo' ≡ pick joins (sets undo (2 * c.entries) (numbers_from r.undo 0 (2 * r.entries))) undo
-  pub counts : c' ≡ pick joins (joined_by (with_answers a' c) r) (settled_at_once (with_answers a' c))
+record Facts (live runs undo room : List ℕ) (cells : Cells) (c : Course) (own : Trial) (f : Fragment) (r : Ran) (m la one ans joins : Bool) (near : Trial) (a' : ℕ) (runs' undo' room' : List ℕ) (cells' : Cells) (c' : Course) : Type 0 where
+  tried : own ≡ trial_at live (live_width * (c.first + c.counts.uncommitted))
+  fragment : f ≡ fragment_at live (live_width * (c.first + c.counts.uncommitted))
+  ran : r ≡ laid (run f cells [])
+  stands : cells' ≡ (run f cells []).cells
+  multi : m ≡ multi f
+  last : la ≡ last f
+  is_one : one ≡ one_rows live (live_width * c.first) c.counts.uncommitted f.coordinator
+  is_near : ans ≡ true → near ≡ near_rows no_trial live (live_width * c.first) c.counts.uncommitted
+  is_ans : ans ≡ answered_now c.counts.uncommitted m one
+  is_joins : joins ≡ joins_queue c.counts.uncommitted m
+  count : a' ≡ pick ans (c.answers + 1) c.answers
+  is_room : room' ≡ pick ans (with_answer c.answers own near r room) room
+  is_runs : runs' ≡ pick joins (sets runs (run_width * c.counts.uncommitted) (begun_row (not ans) la r)) runs
+  is_undo : undo' ≡ pick joins (sets undo (2 * c.entries) (numbers_from r.undo 0 (2 * r.entries))) undo
+  counts : c' ≡ pick joins (joined_by (with_answers a' c) r) (settled_at_once (with_answers a' c))
 
 module _ (live runs undo room : List ℕ) (cells : Cells) (c : Course) (own : Trial) (f : Fragment) (r : Ran) (m la one ans joins : Bool) (near : Trial) (a' : ℕ) (runs' undo' room' : List ℕ) (cells' : Cells) (c' : Course)
     (facts : Facts live runs undo room cells c own f r m la one ans joins near a' runs' undo' room' cells' c') (small : Small c)
@@ -219,7 +221,7 @@ module _ (live runs undo room : List ℕ) (cells : Cells) (c : Course) (own : Tr
         eights = subst (All Eight) rows work.eights;
       }
 
-  pub take_first_left : Left live runs' undo' room' c' cells' sent came
+  take_first_left : Left live runs' undo' room' c' cells' sent came
       (record { cells = (run w.fragment cells []).cells; uncommitted = (placed us w (run w.fragment cells [])).uncommitted; waiting = ws; answers = (placed us w (run w.fragment cells [])).answers; settles = (placed us w (run w.fragment cells [])).settles })
   take_first_left = go joins refl
     where
@@ -251,3 +253,34 @@ module _ (live runs undo room : List ℕ) (cells : Cells) (c : Course) (own : Tr
           (record { cells = (run w.fragment cells []).cells; uncommitted = (placed us w (run w.fragment cells [])).uncommitted; waiting = ws; answers = (placed us w (run w.fragment cells [])).answers; settles = (placed us w (run w.fragment cells [])).settles })
       go true j = work_at _ _ gone (ap (λ (x : Place). x.uncommitted) p ∙ ap (λ (b : Bool). pick b (us ++ (v ∷ [])) us) j) (ap (λ (x : Place). x.answers) p) (joins_work j)
       go false j = work_at _ _ (gone ++ (w ∷ [])) (ap (λ (x : Place). x.uncommitted) p ∙ ap (λ (b : Bool). pick b (us ++ (v ∷ [])) us) j) (ap (λ (x : Place). x.answers) p) (settles_work (none us (sym is_joins ∙ j)) j)
+
+-- the same by where it was placed and what was done with its answer
+pub took_by : (live runs undo room : List ℕ) (cells : Cells) (c : Course) (own : Trial) (f : Fragment) (r : Ran) (p : Placement) (sent : Bool) (runs' undo' room' : List ℕ) (cells' : Cells) (c' : Course)
+    → own ≡ trial_at live (live_width * (c.first + c.counts.uncommitted)) → f ≡ fragment_at live (live_width * (c.first + c.counts.uncommitted)) → r ≡ laid (run f cells []) → cells' ≡ (run f cells []).cells
+    → p ≡ placement_row live (live_width * c.first) c.counts.uncommitted f
+    → (sent ≡ answered_now c.counts.uncommitted (multi f) (one_rows live (live_width * c.first) c.counts.uncommitted f.coordinator))
+    × (room' ≡ pick sent (with_answer c.answers own (trial_or_none (nearest_rows None live (live_width * c.first) c.counts.uncommitted)) r room) room)
+    → runs' ≡ pick p.joins (sets runs (run_width * c.counts.uncommitted) (begun_row (not sent) (last f) r)) runs
+    → undo' ≡ pick p.joins (sets undo (2 * c.entries) (numbers_from r.undo 0 (2 * r.entries))) undo
+    → c' ≡ pick p.joins (joined_by (with_answers (pick sent (c.answers + 1) c.answers) c) r) (settled_at_once (with_answers (pick sent (c.answers + 1) c.answers) c))
+    → Small c → Took live runs undo room cells c runs' undo' room' cells' c'
+took_by live runs undo room cells c own f r p sent runs' undo' room' cells' c' en ef er es ep told eruns eundo ec small =
+    take_first_left live runs undo room cells c own f r (multi f) (last f) (one_rows live (live_width * c.first) c.counts.uncommitted f.coordinator) sent p.joins
+    (trial_or_none (nearest_rows None live (live_width * c.first) c.counts.uncommitted)) (pick sent (c.answers + 1) c.answers) runs' undo' room' cells' c'
+    (record {
+      tried = en;
+      fragment = ef;
+      ran = er;
+      stands = es;
+      multi = refl;
+      last = refl;
+      is_one = refl;
+      is_near = λ h. near_rows_by live (live_width * c.first) c.counts.uncommitted None;
+      is_ans = told.0;
+      is_joins = ap (λ (x : Placement). x.joins) ep;
+      count = refl;
+      is_room = told.1;
+      is_runs = eruns;
+      is_undo = eundo;
+      counts = ec;
+    }) small

@@ -210,13 +210,10 @@ leaves_standing live runs undo room c d P u us ws sent came e s ee ed =
       known = subst (All Known) (sym (undo_one P u us)) s.known;
     }
 
-module _ (live runs room room' : List ℕ) (c d c' : Course) (own none : Trial) (e a : ℕ) (fair : Fair c) (some : 0 < c.counts.uncommitted)
+module _ (live runs room room' : List ℕ) (c d c' : Course) (own : Trial) (e a : ℕ) (fair : Fair c) (some : 0 < c.counts.uncommitted)
     (en : own ≡ trial_at live (live_width * c.first)) (ea : a ≡ pick (holds_row runs (run_width * c.first)) (c.answers + 1) c.answers)
-    (er : room' ≡ pick (holds_row runs (run_width * c.first)) (sets room (answer_words * c.answers) (held_row runs (run_width * c.first) own none)) room) (ez : none ≡ no_trial)
+    (er : room' ≡ pick (holds_row runs (run_width * c.first)) (sets room (answer_words * c.answers) (held_row runs (run_width * c.first) own no_trial)) room)
     (ee : e ≡ min (get_or runs (run_width * c.first + 3) 0) c.entries) (ed : d ≡ left_by c e) (ec : c' ≡ with_answers a d) where
-  sent_none : room' ≡ pick (holds_row runs (run_width * c.first)) (sets room (answer_words * c.answers) (held_row runs (run_width * c.first) own no_trial)) room
-  sent_none = er ∙ ap (λ (t : Trial). pick (holds_row runs (run_width * c.first)) (sets room (answer_words * c.answers) (held_row runs (run_width * c.first) own t)) room) ez
-
   pub settled_one : SettledOne live runs room c room' c'
   settled_one undo P u us ws sent came s =
       let x = leaves_standing live runs undo room c d P u us ws sent came e s ee ed in
@@ -231,7 +228,7 @@ module _ (live runs room room' : List ℕ) (c d c' : Course) (own none : Trial) 
           at_live = x.work.at_live;
           at_runs = x.work.at_runs;
           at_undo = x.work.at_undo;
-          at_room = held_room P u us runs (run_width * c.first) fits ku b (runs_ground came) w.at_runs no_trial sent room room' came.room c.answers own tr w.at_room w.answers (omega (arith, came.enough, fair.answers, some)) sent_none;
+          at_room = held_room P u us runs (run_width * c.first) fits ku b (runs_ground came) w.at_runs no_trial sent room room' came.room c.answers own tr w.at_room w.answers (omega (arith, came.enough, fair.answers, some)) er;
           first = refl;
           uncommitted = refl;
           waiting = x.work.waiting ∙ sym (ap (λ (y : Course). y.counts.waiting) ec);

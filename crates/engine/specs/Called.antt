@@ -1,18 +1,24 @@
 -- What a call does, of every scheme, record, event, lent cells and lent answer room: the list engine's step at the record's view.
-use Rattle.std.specs.Prelude.{ℕ, zero, suc, ◌+◌, ◌*◌, ◌≡◌, ◌&&◌, List, eqb, ltb, length}
+use Rattle.std.specs.Prelude.{ℕ, zero, suc, ◌+◌, ◌*◌, ◌≡◌, ◌&&◌, List, Result, Ok, Err, eqb, ltb, length}
 use Rattle.model.specs.Operations.{Cells, pick}
 use Rattle.model.specs.Refusals.{Stepped, step}
 use Rattle.model.specs.declared.Event.{Event}
 use Rattle.model.specs.declared.Scheme.{Scheme}
+use Rattle.refusals.specs.Numbers.{number_of}
 use Rattle.refusals.specs.Rest.{call_of}
+use Rattle.refusals.specs.declared.Refusal.{Refusal}
 use Rattle.record.specs.declared.Counts.{Counts}
 use Rattle.record.specs.declared.Record.{Record}
 use Rattle.record.specs.Ends.{largest_at, largest_by}
 use Rattle.record.specs.Widths.{live_width, run_width, entry_width}
 use Rattle.record.specs.Words.{cleared, pack_over}
-use Rattle.record.specs.View.{entries_from, view}
-use Rattle.engine.specs.declared.Called.{Called}
-use Rattle.engine.specs.declared.LentCall.{LentCall}
+use Rattle.record.specs.View.{entries_from, shifted, view}
+
+-- what a call tells: the number, the count of answers, and the next record
+pub record Called : Type 0 where
+  pub number : ℕ
+  pub answers : ℕ
+  pub next : Record
 
 unfoldable pub stepped : Scheme → Record → Event → Cells → List ℕ → Stepped
 stepped σ r v cells room = step (view r) (call_of σ v cells room)
@@ -46,13 +52,15 @@ room_after σ r v cells room = (stepped σ r v cells room).room
 abbrev pub Leaves : Scheme → Record → Event → Cells → List ℕ → Called → Cells → List ℕ → Type 0
 Leaves σ r v cells room d cells' room' = (d ≡ called σ r v cells room) × (cells' ≡ cells_after σ r v cells room) × (room' ≡ room_after σ r v cells room)
 
--- a record from its counts and its rows, and what a call on lent rows leaves, as one record
+-- a record from its counts and its rows
 abbrev pub record_by : Counts → List ℕ → List ℕ → List ℕ → Record
 record_by c live runs undo = record { counts = c; live = live; runs = runs; undo = undo }
 
-abbrev pub lent_call : LentCall → List ℕ → List ℕ → List ℕ → Called
-lent_call d live runs undo = record { number = d.number; answers = d.answers; next = record_by d.counts live runs undo }
+-- what a call on a lent record returned and the record that it left, as one record: a refusal sends no answer
+abbrev pub told_by : Result ℕ Refusal → Record → Called
+told_by (Ok n) r = record { number = 0; answers = n; next = r }
+told_by (Err e) r = record { number = number_of e; answers = 0; next = r }
 
--- and what it tells of a single with number n that met nothing live
-abbrev pub settled_alone : Counts → ℕ → LentCall
-settled_alone c n = record { number = 0; answers = 1; counts = largest_at c (largest_by 1 n c.largest) }
+-- and what it tells of a single with number n that met nothing live: the largest number moves, and the first place of the live row is cleared
+abbrev pub settled_alone : Record → ℕ → Called
+settled_alone r n = told_by (Ok 1) (record r { counts = largest_at r.counts (largest_by 1 n r.counts.largest); live = shifted r.live live_width live_width })

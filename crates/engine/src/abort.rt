@@ -15,7 +15,7 @@ pub(crate) fn abort(
     c: Course,
 ) -> Course
     requires fair { Fair c }
-    requires uncommitted_nonzero { 0 < c.counts.uncommitted }
+    requires some_uncommitted { 0 < c.counts.uncommitted }
     ensures aborted { Aborted live.old runs.old undo.old cells.old c
         live.new runs.new undo.new cells.new result }
     ensures kept { Kept c result }

@@ -1,12 +1,14 @@
 // How far a call has come: the record's counts, and what a call counts besides. By value: each step hands back the next.
 ghost use Rattle.std.specs.Prelude.{◌≡◌, ◌+◌, ◌≤◌, ◌<◌};
 ghost use Rattle.model.specs.Operations.{pick};
-ghost use Rattle.engine.specs.Work.{with_answers, joined_with, left_by, requeued_all, waiting_more};
+ghost use Rattle.engine.specs.Work.{with_answers, joined_with, left_by, settled_at_once, requeued_all, waiting_more};
 
 use record::Counts;
 
 // Where the transactions of a call stand in the live row, and how far it has come: the counts as they are now, how many are gone in this call
-// and stand before the others still, the undo entries, the answers sent.
+// and stand before the others still, the undo entries, the answers sent. Its bounds are no ghost fields: a step begins with `Fair` and the drain
+// with `Small`, of which neither gives the other, and a struct with a ghost field takes no `..self`. The rows go to a step one by one beside it:
+// a row that a step is not lent stays, with no clause that says so.
 #[derive(Clone, Copy)]
 pub(crate) struct Course {
     pub counts: Counts,
@@ -21,12 +23,13 @@ impl Course {
         requires { self.answers < 64 }
         ensures { result ≡ with_answers (pick sent (self.answers + 1) self.answers) self }
     {
-        let counts = self.counts;
-        Course {
-            counts: counts,
-            first: self.first,
-            entries: self.entries,
-            answers: if sent { self.answers + 1 } else { self.answers },
+        if sent {
+            Course {
+                answers: self.answers + 1,
+                ..self
+            }
+        } else {
+            self
         }
     }
 
@@ -37,9 +40,7 @@ impl Course {
     {
         Course {
             counts: self.counts.waits(),
-            first: self.first,
-            entries: self.entries,
-            answers: self.answers,
+            ..self
         }
     }
 
@@ -50,9 +51,8 @@ impl Course {
     {
         Course {
             counts: self.counts.joins(),
-            first: self.first,
             entries: self.entries + own,
-            answers: self.answers,
+            ..self
         }
     }
 
@@ -66,8 +66,16 @@ impl Course {
             counts: self.counts.leaves(),
             first: self.first + 1,
             entries: self.entries - own,
-            answers: self.answers,
+            ..self
         }
+    }
+
+    // the first waiting one settles at once: as one that joins with nothing and leaves
+    pub(crate) fn settles(self) -> Course
+        requires { (0 < self.counts.waiting) × (self.counts.uncommitted < 16) × (self.first ≤ 64) × (self.entries ≤ 184) }
+        ensures { result ≡ settled_at_once self }
+    {
+        self.joins(0).leaves(0)
     }
 
     // all uncommitted ones "return to the head of the waiting queue in their old order", and none has entries
@@ -77,9 +85,8 @@ impl Course {
     {
         Course {
             counts: self.counts.requeues(),
-            first: self.first,
             entries: 0,
-            answers: self.answers,
+            ..self
         }
     }
 }

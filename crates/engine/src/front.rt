@@ -41,22 +41,25 @@ pub(crate) fn continue_front(
     f: Fragment,
 ) -> Course
     requires fair { Fair c }
-    requires uncommitted_nonzero { 0 < c.counts.uncommitted }
+    requires some_uncommitted { 0 < c.counts.uncommitted }
     ensures continued { Continued live.now runs.old undo.old room.old cells.old c f
         runs.new undo.new room.new cells.new result }
     ensures kept { Kept c result }
 {
-    let own = rows::trial_at(live, record::LIVE_WIDTH * c.first);
+    let own = rows::trial_at(live, record::LIVE_WORDS * c.first as usize);
     let r = operations::continue_fragment(cells, f, undo, c.entries);
     let entries = note_entries(undo, c.entries, r);
     rows::run_again(runs, f, r.place, entries);
-    let none = rows::no_trial();
-    rows::put_answer(room, rows::ANSWER_WIDTH * c.answers, own, none, r);
-    let counts = c.counts;
+    rows::put_answer(
+        room,
+        rows::ANSWER_WIDTH * c.answers,
+        own,
+        None,
+        rows::told(r),
+    );
     Course {
-        counts: counts,
-        first: c.first,
-        entries: entries,
+        entries,
         answers: c.answers + 1,
+        ..c
     }
 }

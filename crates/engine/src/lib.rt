@@ -1,4 +1,4 @@
-// The engine of one partition: a call by a scheme on a record whose rows are lent, `call_lent`.
+// The engine of one partition: a call by a scheme on a lent record, `call_lent`.
 #![tactic(auto)]
 
 ghost use Rattle.record.specs.Widths.{live_width};
@@ -10,16 +10,17 @@ ghost use Rattle.record.specs.Words.{row_words};
 ghost use Rattle.model.specs.Steps.{run};
 ghost use Rattle.operations.specs.Laid.{told};
 ghost use Rattle.rows.specs.Rows.{first_trial, no_trial, told_row};
-ghost use Rattle.record.specs.View.{fragment_at, shifted, view_by};
+ghost use Rattle.record.specs.View.{fragment_at, view};
 ghost use Rattle.record.specs.Events.{event_of};
 ghost use Rattle.refusals.specs.Rest.{call_of};
 ghost use Rattle.engine.specs.Work.{Same, waiting_more};
-ghost use Rattle.engine.specs.Called.{Leaves, record_by, lent_call, settled_alone};
+ghost use Rattle.engine.specs.Called.{Leaves, told_by, settled_alone};
 ghost use Rattle.engine.specs.Ready.{Accepts, Entered};
 
 use crate::course::Course;
-use model::{Event, Fragment, Scheme};
+use model::{Event, Fragment, Kind, Scheme};
 use record::{Counts, Record};
+use refusals::Refusal;
 
 mod abort;
 mod course;
@@ -27,28 +28,7 @@ mod drain;
 mod front;
 mod settle;
 
-// The record's three rows, by name.
-pub type Live = [u32; record::LIVE_LENGTH];
-
-pub type Runs = [u32; record::RUNS_LENGTH];
-
-pub type Undone = [u32; record::UNDO_LENGTH];
-
-// What a call returns: the number, the count of answers, and the next record.
-#[derive(Clone, Copy)]
-pub struct Called {
-    pub number: u32,
-    pub answers: u32,
-    pub next: Record,
-}
-
-// What a call on lent rows returns: the number, the count of answers, and the next record's counts.
-#[derive(Clone, Copy)]
-pub struct LentCall {
-    pub number: u32,
-    pub answers: u32,
-    pub counts: Counts,
-}
+// The steps take the record's rows one by one: one that a step only reads it takes by `&`, so that no clause has to say that the row stays.
 
 // "Arrival, new number: join the end of the waiting queue".
 pub(crate) fn join_waiting(live: &mut [u32], c: Course, number: u32, f: Fragment) -> Course
@@ -57,11 +37,10 @@ pub(crate) fn join_waiting(live: &mut [u32], c: Course, number: u32, f: Fragment
     ensures live_after { live.new
         ≡ sets live.old (live_width * (c.first + c.counts.uncommitted + c.counts.waiting)) (row_words number 1 f) }
 {
-    let w = record::row_words(number, 1, f);
     record::lay(
         live,
         record::LIVE_WIDTH * (c.first + c.counts.uncommitted + c.counts.waiting),
-        &w,
+        &record::row_words(number, 1, f),
         record::LIVE_WIDTH,
     );
     c.waits()
@@ -83,12 +62,11 @@ pub(crate) fn arrive(
         live.new runs.new undo.new room.new cells.new result }
     ensures same { Same c result }
 {
-    let number = event.number;
-    let f = event.fragment;
-    if refusals::is_front(c.counts.uncommitted, live, number) {
-        return front::continue_front(live, runs, undo, cells, room, c, f);
+    if refusals::is_front(c.counts.uncommitted, live, event.number) {
+        front::continue_front(live, runs, undo, cells, room, c, event.fragment)
+    } else {
+        join_waiting(live, c, event.number, event.fragment)
     }
-    join_waiting(live, c, number, f)
 }
 
 // An accepted event's step; the drain is still to come.
@@ -106,120 +84,94 @@ pub(crate) fn enter(
         live.new runs.new undo.new room.new cells.new result }
     ensures same { Same c result }
 {
-    if event.kind == 1 {
-        return arrive(live, runs, undo, cells, room, c, event);
+    match Kind::try_from(event.kind) {
+        Ok(Kind::Fragment) => arrive(live, runs, undo, cells, room, c, event),
+        Ok(Kind::Commit) => settle::commit(live, runs, undo, room, c),
+        // an accepted event has no other kind
+        _ => abort::abort(live, runs, undo, cells, c),
     }
-    if event.kind == 2 {
-        return settle::commit(live, runs, undo, room, c);
-    }
-    abort::abort(live, runs, undo, cells, c)
 }
 
-// An accepted call, carried out where the rows stand: the event's step, the drain, and the rows of those that are gone closed up.
+// An accepted call, carried out where the rows stand: the event's step, the drain, and the rows of those that are gone closed up. Returns the
+// count of answers.
 pub(crate) fn carry_out(
     scheme: Scheme,
-    counts: Counts,
-    live: &mut Live,
-    runs: &mut Runs,
-    undo: &mut Undone,
+    r: &mut Record,
     cells: &mut [u32],
     event: Event,
     room: &mut [u32],
-) -> LentCall
-    requires { refusal (view_by counts live.old runs.old undo.old) (call_of scheme event cells.old room.old) ≡ 0 }
-    ensures { Leaves scheme (record_by counts live.old runs.old undo.old) event
-        cells.old room.old
-        (lent_call result live.new runs.new undo.new) cells.new room.new }
+) -> u32
+    requires { refusal (view r.old) (call_of scheme event cells.old room.old) ≡ 0 }
+    ensures { Leaves scheme r.old event cells.old room.old (told_by (Ok result) r.new) cells.new room.new }
 {
-    let entries = tidy::tidy(runs, counts.uncommitted);
+    let entries = tidy::tidy(&mut r.runs, r.counts.uncommitted);
     let c = Course {
-        counts: counts.accepts(event.kind, event.number),
+        counts: r.counts.accepts(event.kind, event.number),
         first: 0,
-        entries: entries,
+        entries,
         answers: 0,
     };
-    let e = enter(live, runs, undo, cells, room, c, event);
+    let e = enter(&mut r.live, &mut r.runs, &mut r.undo, cells, room, c, event);
     // "then drain"
-    let d = drain::drain(scheme, live, runs, undo, cells, room, e);
+    let d = drain::drain(
+        scheme,
+        &mut r.live,
+        &mut r.runs,
+        &mut r.undo,
+        cells,
+        room,
+        e,
+    );
     record::shift(
-        live,
+        &mut r.live,
         record::LIVE_WIDTH * d.first,
         record::LIVE_WIDTH * (d.first + d.counts.uncommitted + d.counts.waiting),
     );
-    let next = d.counts;
-    LentCall {
-        number: 0,
-        answers: d.answers,
-        counts: next,
-    }
+    r.counts = d.counts;
+    d.answers
 }
 
 // Does an accepted event bring a single that meets nothing live?
 pub(crate) fn is_alone(counts: Counts, event: &[u32]) -> bool
     ensures { result ≡ (eqb counts.uncommitted 0 && (eqb counts.waiting 0 && eqb (get_or event.now 2 0) 2)) }
 {
-    if counts.uncommitted != 0 {
-        return false;
-    }
-    if counts.waiting != 0 {
-        return false;
-    }
     // its flags: no multi, and its last fragment
-    let flags = operations::number_at(event, 2);
-    flags == 2
+    counts.uncommitted == 0 && counts.waiting == 0 && operations::number_at(event, 2) == 2
 }
 
 // A single that meets nothing live runs from its words, is answered and settles: of the record only the largest number moves, and the place that it takes
-// and leaves is cleared.
+// and leaves is cleared. Returns the count of answers.
 pub(crate) fn settle_alone(
-    counts: Counts,
-    live: &mut Live,
+    r: &mut Record,
     cells: &mut [u32],
     event: &[u32],
     room: &mut [u32],
-) -> LentCall
-    ensures value { result ≡ settled_alone counts (get_or event.now 1 0) }
-    ensures live_after { live.new ≡ shifted live.old live_width live_width }
+) -> u32
+    ensures value { told_by (Ok result) r.new ≡ settled_alone r.old (get_or event.now 1 0) }
     ensures cells_after { cells.new ≡ (run (fragment_at event.now 1) cells.old []).cells }
     ensures room_after { room.new ≡ sets room.old 0
         (told_row (first_trial event.now 1) no_trial (told (run (fragment_at event.now 1) cells.old []))) }
 {
     rows::run_alone(cells, event, 1, room);
-    record::shift(live, record::LIVE_WIDTH, record::LIVE_WIDTH);
-    let number = operations::number_at(event, 1);
-    LentCall {
-        number: 0,
-        answers: 1,
-        counts: counts.accepts(1, number),
-    }
+    record::shift(&mut r.live, record::LIVE_WIDTH, record::LIVE_WIDTH);
+    r.counts = r.counts.accepts(1, operations::number_at(event, 1));
+    1
 }
 
-// A call on a record whose rows are lent: refused with nothing touched, or carried out.
+// A call on a lent record: refused with nothing touched, or carried out. Returns the count of answers.
 pub fn call_lent(
     scheme: Scheme,
-    counts: Counts,
-    live: &mut Live,
-    runs: &mut Runs,
-    undo: &mut Undone,
+    r: &mut Record,
     cells: &mut [u32],
     event: &[u32],
     room: &mut [u32],
-) -> LentCall
-    ensures { Leaves scheme (record_by counts live.old runs.old undo.old)
-        (event_of event.now) cells.old room.old
-        (lent_call result live.new runs.new undo.new) cells.new room.new }
+) -> Result<u32, Refusal>
+    ensures { Leaves scheme r.old (event_of event.now) cells.old room.old
+        (told_by result r.new) cells.new room.new }
 {
-    let number = refusals::refused(counts, live, runs, undo, cells, room, event);
-    if number != 0 {
-        return LentCall {
-            number: number,
-            answers: 0,
-            counts: counts,
-        };
+    refusals::refused(r.counts, &r.live, &r.runs, &r.undo, cells, room, event)?;
+    if is_alone(r.counts, event) {
+        return Ok(settle_alone(r, cells, event, room));
     }
-    if is_alone(counts, event) {
-        return settle_alone(counts, live, cells, event, room);
-    }
-    let v = record::event_of(event);
-    carry_out(scheme, counts, live, runs, undo, cells, v, room)
+    Ok(carry_out(scheme, r, cells, record::event_of(event), room))
 }

@@ -1,6 +1,7 @@
 // "Commit of the front": it settles, then the singles behind it; the new front is answered, and those behind it that may be.
 ghost use Rattle.std.specs.Prelude.{◌≡◌, ◌+◌, ◌*◌, ◌≤◌, ◌<◌, min, get_or};
 ghost use Rattle.record.specs.Widths.{run_width};
+ghost use Rattle.rows.specs.Rows.{trial_or_none};
 ghost use Rattle.engine.specs.Work.{Kept, with_answers, Fair, SettledOne, Singles, ReleasedOne, Fronted, Committed};
 
 use crate::course::Course;
@@ -8,31 +9,29 @@ use rows::Trial;
 
 // How many undo entries run number i owns, at most so many.
 pub(crate) fn entries_at(runs: &[u32], i: u32, most: u32) -> u32
-    requires { i ≤ 64 }
     ensures { result ≡ min (get_or runs.now (run_width * i + 3) 0) most }
 {
-    let own = operations::number_at(runs, record::RUN_WORDS * i as usize + 3);
-    rows::least(own, most)
+    operations::number_at(runs, record::RUN_WORDS * i as usize + 3).min(most)
 }
 
 // The first uncommitted one is answered if it holds its answer, and leaves the queue. Its run stands where it stood, behind those that left before it.
 pub(crate) fn settle_one(live: &[u32], runs: &[u32], room: &mut [u32], c: Course) -> Course
     requires fair { Fair c }
-    requires uncommitted_nonzero { 0 < c.counts.uncommitted }
-    ensures fair_2 { Fair result }
-    ensures uncommitted_value { (result.counts.uncommitted + 1 ≡ c.counts.uncommitted) × (result.entries ≤ c.entries) }
+    requires some_uncommitted { 0 < c.counts.uncommitted }
+    ensures still_fair { Fair result }
+    ensures one_less { result.counts.uncommitted + 1 ≡ c.counts.uncommitted }
+    ensures no_more_entries { result.entries ≤ c.entries }
     ensures settled_one { SettledOne live.now runs.now room.old c room.new result }
     ensures kept { Kept c result }
 {
-    let own = rows::trial_at(live, record::LIVE_WIDTH * c.first);
-    let none = rows::no_trial();
+    let own = rows::trial_at(live, record::LIVE_WORDS * c.first as usize);
     let held = rows::put_held(
         room,
         rows::ANSWER_WIDTH * c.answers,
         runs,
         c.first,
         own,
-        none,
+        None,
     );
     let entries = entries_at(runs, c.first, c.entries);
     c.leaves(entries).sends(held)
@@ -41,16 +40,15 @@ pub(crate) fn settle_one(live: &[u32], runs: &[u32], room: &mut [u32], c: Course
 // "Then singles settle and are answered from the front of the queue until a multi is first."
 pub(crate) fn settle_singles(live: &[u32], runs: &[u32], room: &mut [u32], from: Course) -> Course
     requires { Fair from }
-    ensures fair { Fair result }
-    ensures entries_le_entries { result.entries ≤ from.entries }
+    ensures still_fair { Fair result }
+    ensures no_more_entries { result.entries ≤ from.entries }
     ensures singles { Singles live.now runs.now room.old from room.new result }
     ensures kept { Kept from result }
 {
     let mut c = from;
-    while 0 < c.counts.uncommitted {
-        if rows::is_multi_row(live, record::LIVE_WIDTH * c.first) {
-            return c;
-        }
+    while 0 < c.counts.uncommitted
+        && !rows::is_multi_row(live, record::LIVE_WORDS * c.first as usize)
+    {
         c = settle_one(live, runs, room, c);
     }
     c
@@ -63,13 +61,14 @@ pub(crate) fn release_one(
     room: &mut [u32],
     c: Course,
     i: u32,
-    near: Trial,
+    near: Option<Trial>,
 ) -> Course
     requires { (c.first + i ≤ 64) × (i ≤ 16) × (c.answers < 64) }
-    ensures value { (result ≡ with_answers result.answers c) × (result.answers ≤ c.answers + 1) }
-    ensures released_one { ReleasedOne live.now runs.old room.old c i near runs.new room.new result }
+    ensures answers_alone { result ≡ with_answers result.answers c }
+    ensures one_at_most { result.answers ≤ c.answers + 1 }
+    ensures released_one { ReleasedOne live.now runs.old room.old c i (trial_or_none near) runs.new room.new result }
 {
-    let at = record::LIVE_WIDTH * (c.first + i);
+    let at = record::LIVE_WORDS * (c.first + i) as usize;
     if !rows::is_multi_row(live, at) {
         return c;
     }
@@ -87,22 +86,20 @@ pub(crate) fn release_one(
 // coordinator, up to the first multi of another one.
 pub(crate) fn release(live: &[u32], runs: &mut [u32], room: &mut [u32], from: Course) -> Course
     requires { Fair from }
-    ensures value { result ≡ with_answers result.answers from }
+    ensures answers_alone { result ≡ with_answers result.answers from }
     ensures fronted { Fronted live.now runs.old room.old from runs.new room.new result }
 {
     let front = record::LIVE_WORDS * from.first as usize;
     let k = operations::number_at(live, front + 2);
     let mut c = from;
-    let mut near = rows::no_trial();
-    let mut i: u32 = 0;
-    while i < from.counts.uncommitted {
-        let at = record::LIVE_WIDTH * (from.first + i);
+    let mut near = None;
+    for i in 0..from.counts.uncommitted {
+        let at = record::LIVE_WORDS * (from.first + i) as usize;
         if !rows::same_coordinator(live, at, k) {
             return c;
         }
         c = release_one(live, runs, room, c, i, near);
         near = rows::nearer(live, at, near);
-        i = i + 1;
     }
     c
 }
@@ -117,8 +114,8 @@ pub(crate) fn commit(
     c: Course,
 ) -> Course
     requires fair { Fair c }
-    requires uncommitted_nonzero { 0 < c.counts.uncommitted }
-    requires first_value { c.first ≡ 0 }
+    requires some_uncommitted { 0 < c.counts.uncommitted }
+    requires none_gone { c.first ≡ 0 }
     ensures committed { Committed live.now runs.old undo.old room.old c
         runs.new undo.new room.new result }
     ensures kept { Kept c result }

@@ -3,25 +3,22 @@ use Prim.Native.Nat.{ℕ, zero, suc, ◌+◌, ◌-◌, ◌*◌, ◌≤◌, ◌<�
 use native.Mathlib.Omega.{arith}
 use mathlib.Core.Path.{◌≡◌, refl, sym, ap, ◌∙◌}
 use mathlib.Core.List.{List, [], ◌∷◌, ◌++◌}
-use lib.ListN.{length, take, drop, replicate}
+use lib.ListN.{take, replicate}
 use lib.Seq.{sets}
+use Rattle.std.specs.Prelude.{Option, None, Some}
 use Rattle.model.specs.declared.Scheme.{Scheme}
 use Rattle.model.specs.declared.Event.{Event}
 use Rattle.record.specs.declared.Record.{Record}
 use Rattle.record.specs.declared.Fresh.{Fresh}
 use Rattle.record.specs.Start.{fresh_of}
-use Rattle.engine.specs.declared.Called.{Called}
-use Rattle.engine.specs.Called.{called, cells_after, room_after}
+use Rattle.engine.specs.Called.{Called, called, cells_after, room_after}
 use Rattle.trace.specs.declared.Shape.{Shape}
-use Rattle.trace.specs.declared.Shape.TheVariants.{Bad, Trace}
 use Rattle.trace.specs.Format.{words_from, event_at, shape_of}
 use Rattle.trace.specs.Text.{line_e, bad_trace, bad_scheme}
-use Rattle.listing.specs.declared.Choice.{Choice}
-use Rattle.listing.specs.declared.Choice.TheVariants.{By, Unknown}
 use Rattle.listing.specs.Chosen.{scheme_of}
 use Rattle.listing.specs.Played.{Playing, playing, played_one, played, started_trace}
 use Rattle.listing.specs.Printed.{Lines, answer_lines, event_lines, events_lines, cell_lines, trace_lines, lines_as, lines_of, lines_by, lines_for, together, listing_of, Put}
-use Rattle.listing.proofs.Texts.{together_append, shown_whole, put_then, put_as, Left, left_start, left_turn, left_end}
+use Rattle.listing.proofs.Texts.{together_append, put_then, put_as, Left, left_turn, left_end}
 
 -- the lines of an event
 pub event_put : (from position number answers : ℕ) (room b b1 b2 : List ℕ) (at p q : ℕ) → Put from b b1 at p (line_e position number)
@@ -35,19 +32,6 @@ module _ (σ : Scheme) (bytes : List ℕ) (first n : ℕ) where
   rest i k = together (events_lines σ bytes (i + 1) (first + 29 * i) (n - i) k)
 
   module _ (i : ℕ) where
-    pub play_start : (k : Playing) → i ≡ 0 → played σ bytes (first + 29 * i) (n - i) k ≡ played σ bytes first n k
-    play_start k h =
-        let p : first + 29 * i ≡ first = omega arith in
-        let q : n - i ≡ n = omega arith in
-        λ j. played σ bytes (p j) (q j) k
-
-    pub events_start : (from : ℕ) (k : Playing) (b : List ℕ) → i ≡ 0 → Left from b b 0 0 (rest i k) (together (events_lines σ bytes 1 first n k))
-    events_start from k b h =
-        let o : i + 1 ≡ 1 = omega arith in
-        let p : first + 29 * i ≡ first = omega arith in
-        let q : n - i ≡ n = omega arith in
-        left_start from b 0 _ _ (λ j. together (events_lines σ bytes (o j) (p j) (q j) k))
-
     -- a call and what it leaves
     module _ (r : Record) (cells room : List ℕ) (v : Event) (d : Called) (cells' room' : List ℕ) (h : i < n) (ev : v ≡ event_at bytes (first + 29 * i)) (ed : d ≡ called σ r v cells room)
         (ec : cells' ≡ cells_after σ r v cells room) (er : room' ≡ room_after σ r v cells room) where
@@ -90,16 +74,17 @@ module _ (σ : Scheme) (bytes : List ℕ) (first n : ℕ) where
           left_end from b b₀ p 0 (rest i k) whole (ap (λ (x : ℕ). together (events_lines σ bytes (i + 1) (first + 29 * i) x k)) e) l
 
 -- all lines of a trace: its events' and its cells'
-pub trace_put : (from : ℕ) (σ : Scheme) (bytes : List ℕ) (first n count : ℕ) (cells cells1 cells2 room b b1 b2 : List ℕ) (p q : ℕ) (f : Fresh) → f ≡ fresh_of count → cells1 ≡ sets cells 0 (words_from bytes 4 count)
-    → cells2 ≡ (played σ bytes first n (playing f.next cells1 room)).cells → Put from b b1 0 p (together (events_lines σ bytes 1 first n (playing f.next cells1 room))) → Put from b1 b2 p q (together (cell_lines cells2 count))
-    → Put from b b2 0 q (together (trace_lines σ bytes count n first cells room))
+pub trace_put : (from : ℕ) (σ : Scheme) (bytes : List ℕ) (s : Shape) (cells cells1 cells2 room b b1 b2 : List ℕ) (p q : ℕ) (f : Fresh) → f ≡ fresh_of s.cells → cells1 ≡ sets cells 0 (words_from bytes 4 s.cells)
+    → cells2 ≡ (played σ bytes s.first s.events (playing f.next cells1 room)).cells → Put from b b1 0 p (together (events_lines σ bytes 1 s.first s.events (playing f.next cells1 room))) → Put from b1 b2 p q (together (cell_lines cells2 s.cells))
+    → Put from b b2 0 q (together (trace_lines σ bytes s cells room))
 unfolding trace_lines started_trace
-trace_put from σ bytes first n count cells cells1 cells2 room b b1 b2 p q f ef e1 e2 h k =
+trace_put from σ bytes s cells cells1 cells2 room b b1 b2 p q f ef e1 e2 h k =
+    let n : ℕ = s.events in
     put_as from b b2 _ _ 0 q
-    ((λ j. together (events_lines σ bytes 1 first n (playing f.next cells1 room)) ++ together (cell_lines (e2 j) count))
-    ∙ (λ j. together (events_lines σ bytes 1 first n (playing (ef j).next (e1 j) room)) ++ together (cell_lines (played σ bytes first n (playing (ef j).next (e1 j) room)).cells count))
-    ∙ sym (together_append (events_lines σ bytes 1 first n (started_trace bytes count cells room)) (cell_lines (played σ bytes first n (started_trace bytes count cells room)).cells count)))
-    (put_then from b b1 b2 (together (events_lines σ bytes 1 first n (playing f.next cells1 room))) (together (cell_lines cells2 count)) 0 p q h k)
+    ((λ j. together (events_lines σ bytes 1 s.first n (playing f.next cells1 room)) ++ together (cell_lines (e2 j) s.cells))
+    ∙ (λ j. together (events_lines σ bytes 1 s.first n (playing (ef j).next (e1 j) room)) ++ together (cell_lines (played σ bytes s.first n (playing (ef j).next (e1 j) room)).cells s.cells))
+    ∙ sym (together_append (events_lines σ bytes 1 s.first n (started_trace bytes s.cells cells room)) (cell_lines (played σ bytes s.first n (started_trace bytes s.cells cells room)).cells s.cells)))
+    (put_then from b b1 b2 (together (events_lines σ bytes 1 s.first n (playing f.next cells1 room))) (together (cell_lines cells2 s.cells)) 0 p q h k)
 
 take-zeros : (m n : ℕ) → n ≤ m → take {A = ℕ} n (replicate m 0) ≡ replicate n 0
 take-zeros m zero h = refl
@@ -107,33 +92,27 @@ take-zeros zero (suc n) h = absurd (omega arith)
 take-zeros (suc m) (suc n) h = ap (λ (x : List ℕ). 0 ∷ x) (take-zeros m n (omega arith))
 
 -- "It starts from cells cleared to 0": of 4,096 as many as the trace has are lent
-pub cleared_put : (from : ℕ) (σ : Scheme) (bytes : List ℕ) (count events first : ℕ) (b b' : List ℕ) (p : ℕ) → count ≤ 4096
-    → Put from b b' 0 p (together (trace_lines σ bytes count events first (take count (replicate 4096 0)) (replicate 1024 0))) → Put from b b' 0 p (together (trace_lines σ bytes count events first (replicate count 0) (replicate 1024 0)))
-cleared_put from σ bytes count events first b b' p h k = put_as from b b' _ _ 0 p (ap (λ (x : List ℕ). together (trace_lines σ bytes count events first x (replicate 1024 0))) (take-zeros 4096 count h)) k
+pub cleared_put : (from : ℕ) (σ : Scheme) (bytes : List ℕ) (s : Shape) (b b' : List ℕ) (p : ℕ) → s.cells ≤ 4096
+    → Put from b b' 0 p (together (trace_lines σ bytes s (take s.cells (replicate 4096 0)) (replicate 1024 0))) → Put from b b' 0 p (together (trace_lines σ bytes s (replicate s.cells 0) (replicate 1024 0)))
+cleared_put from σ bytes s b b' p h k = put_as from b b' _ _ 0 p (ap (λ (x : List ℕ). together (trace_lines σ bytes s x (replicate 1024 0))) (take-zeros 4096 s.cells h)) k
 
 -- all that is printed, by the shape of what was read
 module _ (from : ℕ) (σ : Scheme) (bytes b b' : List ℕ) (p : ℕ) where
-  pub bad_put : Bad ≡ shape_of bytes → Put from b b' 0 p (bad_trace ++ []) → Put from b b' 0 p (together (lines_of σ bytes))
+  pub bad_put : None ≡ shape_of bytes → Put from b b' 0 p (bad_trace ++ []) → Put from b b' 0 p (together (lines_of σ bytes))
   unfolding lines_of together
-  bad_put es h = put_as from b b' _ _ 0 p (ap (λ (s : Shape). together (lines_as σ bytes s)) es) h
+  bad_put es h = put_as from b b' _ _ 0 p (ap (λ (s : Option Shape). together (lines_as σ bytes s)) es) h
 
-  pub good_put : (count events first : ℕ) → Trace count events first ≡ shape_of bytes → Put from b b' 0 p (together (trace_lines σ bytes count events first (replicate count 0) (replicate 1024 0)))
+  pub good_put : (s : Shape) → Some s ≡ shape_of bytes → Put from b b' 0 p (together (trace_lines σ bytes s (replicate s.cells 0) (replicate 1024 0)))
       → Put from b b' 0 p (together (lines_of σ bytes))
   unfolding lines_of
-  good_put count events first es h = put_as from b b' _ _ 0 p (ap (λ (s : Shape). together (lines_as σ bytes s)) es) h
+  good_put s es h = put_as from b b' _ _ 0 p (ap (λ (x : Option Shape). together (lines_as σ bytes x)) es) h
 
--- the same, by what the command's word chooses: all of the text, from byte `from` on
+-- the same, by what the command's word chooses
 module _ (from : ℕ) (word bytes b b' : List ℕ) (p : ℕ) where
-  abbrev Whole : Type 0
-  Whole = (p ≡ length (listing_of word bytes)) × (b' ≡ sets b 0 (drop from (listing_of word bytes)))
-
-  whole : Put from b b' 0 p (listing_of word bytes) → Whole
-  whole h = (omega (arith, h.place), h.bytes ∙ shown_whole from b (listing_of word bytes))
-
-  pub scheme_put : (σ : Scheme) → By σ ≡ scheme_of word → Put from b b' 0 p (together (lines_of σ bytes)) → Whole
+  pub scheme_put : (σ : Scheme) → Some σ ≡ scheme_of word → Put from b b' 0 p (together (lines_of σ bytes)) → Put from b b' 0 p (listing_of word bytes)
   unfolding lines_for listing_of
-  scheme_put σ ec h = whole (put_as from b b' _ _ 0 p (ap (λ (c : Choice). together (lines_by c bytes)) ec) h)
+  scheme_put σ ec h = put_as from b b' _ _ 0 p (ap (λ (c : Option Scheme). together (lines_by c bytes)) ec) h
 
-  pub unknown_put : Unknown ≡ scheme_of word → Put from b b' 0 p (bad_scheme ++ []) → Whole
+  pub unknown_put : None ≡ scheme_of word → Put from b b' 0 p (bad_scheme ++ []) → Put from b b' 0 p (listing_of word bytes)
   unfolding lines_for listing_of together
-  unknown_put ec h = whole (put_as from b b' _ _ 0 p (ap (λ (c : Choice). together (lines_by c bytes)) ec) h)
+  unknown_put ec h = put_as from b b' _ _ 0 p (ap (λ (c : Option Scheme). together (lines_by c bytes)) ec) h

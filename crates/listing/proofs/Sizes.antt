@@ -12,8 +12,7 @@ use Rattle.model.proofs.Kept.{answers_most}
 use Rattle.refusals.specs.Rest.{call_of}
 use Rattle.record.specs.declared.Record.{Record}
 use Rattle.record.specs.View.{view}
-use Rattle.engine.specs.declared.Called.{Called}
-use Rattle.engine.specs.Called.{called, stepped, room_after}
+use Rattle.engine.specs.Called.{Called, called, stepped, room_after}
 use Rattle.trace.specs.Format.{event_at}
 use Rattle.trace.specs.Text.{line_e, line_a}
 use Rattle.trace.proofs.Lines.{length_e, length_a}

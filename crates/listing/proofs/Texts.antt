@@ -2,11 +2,11 @@
 use Prim.Native.Nat.{ℕ, zero, suc, ◌+◌, ◌-◌, ◌≤◌, ◌<◌}
 use native.Mathlib.Omega.{arith}
 use borrow.Author.Tests.{le-leb, lt-leb}
-use mathlib.Core.Path.{◌≡◌, refl, sym, ap, ◌∙◌}
+use mathlib.Core.Path.{◌≡◌, refl, sym, ap, subst, ◌∙◌}
 use mathlib.Core.Bool.{Bool}
 use mathlib.Core.List.{List, [], ◌∷◌, ◌++◌, append_assoc}
 use lib.ListN.{length, length-append, take, drop, get_or, set, drop_of_length-le}
-use lib.Seq.{sets, length-sets, sets-eq, take_at, drop-cons, get_or-take, length-take-le}
+use lib.Seq.{sets, sets-eq, take_at, drop-cons}
 use Rattle.model.specs.Operations.{pick}
 use Rattle.listing.specs.Printed.{Lines, lines_from, together, seen, shown, Put}
 
@@ -52,39 +52,39 @@ shown_past from l (suc k) at (b ∷ x) h = ap (λ (m : List ℕ). shown from m (
 pub shown_whole : (from : ℕ) (l x : List ℕ) → shown from l 0 x ≡ sets l 0 (drop from x)
 shown_whole from l x = shown_past from l from 0 x (omega arith)
 
--- one turn of putting a line's n bytes, of which i are put
-pub bytes_turn : (from : ℕ) (b b' line all : List ℕ) (at n i w : ℕ) → n ≤ length line → i < n → w ≡ get_or line i 0 → b' ≡ seen from b (at + i) w
-    → shown from b (at + i) (drop i (take n line)) ≡ all → shown from b' (at + (i + 1)) (drop (i + 1) (take n line)) ≡ all
+-- one turn of putting a text's bytes, of which i are put
+pub text_turn : (from : ℕ) (b b' text all : List ℕ) (at i w : ℕ) → i < length text → w ≡ get_or text i 0 → b' ≡ seen from b (at + i) w
+    → shown from b (at + i) (drop i text) ≡ all → shown from b' (at + (i + 1)) (drop (i + 1) text) ≡ all
 unfolding shown
-bytes_turn from b b' line all at n i w fits h ew eb inv =
-    let x : List ℕ = take n line in
+text_turn from b b' text all at i w h ew eb inv =
     let p : at + (i + 1) ≡ suc (at + i) = omega arith in
     let q : i + 1 ≡ suc i = omega arith in
-    let l : length x ≡ n = length-take-le n line fits in
-    let k : i < length x = omega arith in
-    (λ j. shown from ((eb ∙ ap (seen from b (at + i)) (ew ∙ sym (get_or-take n line i 0 h))) j) (p j) (drop (q j) x)) ∙ ap (shown from b (at + i)) (sym (drop-cons x i 0 k)) ∙ inv
+    (λ j. shown from ((eb ∙ ap (seen from b (at + i)) ew) j) (p j) (drop (q j) text)) ∙ ap (shown from b (at + i)) (sym (drop-cons text i 0 h)) ∙ inv
 
-pub bytes_end : (from : ℕ) (b line all : List ℕ) (at n i : ℕ) → n ≤ length line → n ≤ i → shown from b (at + i) (drop i (take n line)) ≡ all → b ≡ all
+pub text_start : (from : ℕ) (b text : List ℕ) (at : ℕ) → shown from b (at + 0) (drop 0 text) ≡ shown from b at text
+text_start from b text at = let z : at + 0 ≡ at = omega arith in ap (λ (x : ℕ). shown from b x text) z
+
+pub text_end : (from : ℕ) (b text all : List ℕ) (at i : ℕ) → length text ≤ i → shown from b (at + i) (drop i text) ≡ all → b ≡ all
 unfolding shown
-bytes_end from b line all at n i fits h inv =
-    let l : length (take n line) ≡ n = length-take-le n line fits in
-    let k : length (take n line) ≤ i = omega arith in
-    sym (ap (shown from b (at + i)) (drop_of_length-le (take n line) k)) ∙ inv
+text_end from b text all at i h inv = sym (ap (shown from b (at + i)) (drop_of_length-le text h)) ∙ inv
 
 -- the same text by another name
 pub put_as : (from : ℕ) (b b' x y : List ℕ) (at p : ℕ) → x ≡ y → Put from b b' at p x → Put from b b' at p y
 put_as from b b' x y at p e h = record { place = h.place ∙ ap (λ (t : List ℕ). at + length t) e; bytes = h.bytes ∙ ap (shown from b at) e }
 
--- a line that was written into a buffer of its own fits there, and the text
-pub written_fits : (line line' text : List ℕ) (at n most : ℕ) → n ≡ 0 + length text → line' ≡ sets line 0 text → length text ≤ most → most ≤ length line → at + most < 4294967296
-    → (n ≤ length line') × (at + n < 4294967296)
-written_fits line line' text at n most en el few fits room = (omega (arith, ap length el, length-sets line 0 text), omega arith)
+-- A line that was written into an array of its own: what is put from there.
+pub line_written : (line line' text : List ℕ) (n : ℕ) → n ≡ 0 + length text → line' ≡ sets line 0 text → length text ≤ length line → take n line' ≡ text
+line_written line line' text n en el fits =
+    ap (take n) (el ∙ sets-eq text line 0 (omega arith)) ∙ take_at text (drop (0 + length text) line) n (omega arith)
 
--- a line that was written into a buffer of its own, and put from there
 pub put_written : (from : ℕ) (b b' line line' text : List ℕ) (at n p : ℕ) → n ≡ 0 + length text → line' ≡ sets line 0 text → length text ≤ length line → Put from b b' at p (take n line') → Put from b b' at p text
-put_written from b b' line line' text at n p en el fits h =
-    let e : take n line' ≡ text = ap (take n) (el ∙ sets-eq text line 0 (omega arith)) ∙ take_at text (drop (0 + length text) line) n (omega arith) in
-    put_as from b b' (take n line') text at p e h
+put_written from b b' line line' text at n p en el fits h = put_as from b b' (take n line') text at p (line_written line line' text n en el fits) h
+
+-- the same, where the page starts and the place are known by other names
+pub put_moved : (from from' : ℕ) (b b' : List ℕ) (at at' p : ℕ) (x : List ℕ) → from' ≡ from → at' ≡ at → Put from' b b' at' p x → Put from b b' at p x
+put_moved from from' b b' at at' p x e z h =
+    let P : ℕ → ℕ → Type 0 = λ f i. Put f b b' i p x in
+    subst (λ (i : ℕ). P from i) z (subst (λ (f : ℕ). P f at') e h)
 
 -- one text behind another
 pub put_then : (from : ℕ) (b b1 b2 x y : List ℕ) (at p q : ℕ) → Put from b b1 at p x → Put from b1 b2 p q y → Put from b b2 at q (x ++ y)

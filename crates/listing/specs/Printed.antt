@@ -1,14 +1,11 @@
 -- Document 01, "The trace program": all lines that it prints for the word of its command and the bytes that it read, in order.
-use Rattle.std.specs.Prelude.{ℕ, zero, suc, ◌+◌, ◌-◌, ◌*◌, ◌≡◌, List, [], ◌∷◌, ◌++◌, leb, length, get_or, set, replicate}
+use Rattle.std.specs.Prelude.{ℕ, zero, suc, ◌+◌, ◌-◌, ◌*◌, ◌≡◌, Option, None, Some, List, [], ◌∷◌, ◌++◌, leb, length, get_or, set, replicate}
 use Rattle.model.specs.Operations.{Cells, pick}
 use Rattle.model.specs.declared.Scheme.{Scheme}
 use Rattle.engine.specs.Called.{called, room_after}
 use Rattle.trace.specs.declared.Shape.{Shape}
-use Rattle.trace.specs.declared.Shape.TheVariants.{Bad, Trace}
 use Rattle.trace.specs.Format.{event_at, shape_of}
 use Rattle.trace.specs.Text.{line_e, line_a, line_c, bad_trace, bad_scheme}
-use Rattle.listing.specs.declared.Choice.{Choice}
-use Rattle.listing.specs.declared.Choice.TheVariants.{By, Unknown}
 use Rattle.listing.specs.Chosen.{scheme_of}
 use Rattle.listing.specs.Played.{Playing, played_one, played, started_trace}
 
@@ -40,24 +37,24 @@ events_lines σ bytes position b (suc n) k =
 abbrev pub cell_lines : Cells → ℕ → Lines
 cell_lines cells n = lines_from (λ (i : ℕ). line_c i (get_or cells i 0)) 0 n
 
--- a trace of this many cells and events, the first event at word b, from these cells and this room
-unfoldable pub trace_lines : Scheme → List ℕ → ℕ → ℕ → ℕ → Cells → List ℕ → Lines
-trace_lines σ bytes count events b cells room =
-    let k = started_trace bytes count cells room in
-    events_lines σ bytes 1 b events k ++ cell_lines (played σ bytes b events k).cells count
+-- a trace of this shape, from these cells and this room
+unfoldable pub trace_lines : Scheme → List ℕ → Shape → Cells → List ℕ → Lines
+trace_lines σ bytes s cells room =
+    let k = started_trace bytes s.cells cells room in
+    events_lines σ bytes 1 s.first s.events k ++ cell_lines (played σ bytes s.first s.events k).cells s.cells
 
 -- "It starts from cells cleared to 0"; "Else it prints `bad trace` alone."
-abbrev pub lines_as : Scheme → List ℕ → Shape → Lines
-lines_as σ bytes Bad = bad_trace ∷ []
-lines_as σ bytes (Trace count events b) = trace_lines σ bytes count events b (replicate count 0) (replicate 1024 0)
+abbrev pub lines_as : Scheme → List ℕ → Option Shape → Lines
+lines_as σ bytes None = bad_trace ∷ []
+lines_as σ bytes (Some s) = trace_lines σ bytes s (replicate s.cells 0) (replicate 1024 0)
 
 unfoldable pub lines_of : Scheme → List ℕ → Lines
 lines_of σ bytes = lines_as σ bytes (shape_of bytes)
 
 -- by what the command's word chooses; `bad scheme` alone where it names none, whatever was read
-abbrev pub lines_by : Choice → List ℕ → Lines
-lines_by (By σ) bytes = lines_of σ bytes
-lines_by Unknown bytes = bad_scheme ∷ []
+abbrev pub lines_by : Option Scheme → List ℕ → Lines
+lines_by (Some σ) bytes = lines_of σ bytes
+lines_by None bytes = bad_scheme ∷ []
 
 unfoldable pub lines_for : List ℕ → List ℕ → Lines
 lines_for word bytes = lines_by (scheme_of word) bytes

@@ -17,7 +17,7 @@ use Rattle.model.specs.declared.Op.{Op}
 use Rattle.model.specs.declared.Fragment.{Fragment}
 use Rattle.model.specs.declared.Scheme.{Scheme}
 use Rattle.model.specs.declared.Undo.{Undo}
-use Rattle.model.specs.declared.Did.TheVariants.{Number, Fails}
+use Rattle.std.specs.Prelude.{Ok, Err}
 use Rattle.model.proofs.Chain.{all_append}
 use Rattle.model.proofs.Tests.{both, and_left, and_right, or_left, or_true, every_append}
 use Rattle.model.proofs.Taking.{may_less, may_finished}
@@ -41,13 +41,13 @@ run_left ct p (o ∷ os) cs ns us h k e a =
     elim (operate o cs)
     as (λ d. Left ct (length us + suc (length os))
     (elim d [
-      | Number y ↦ run_from (suc p) os (put o y cs) (ns ++ (y ∷ [])) (noted o cs us)
-      | Fails x ↦ record { cells = undone us cs; outcome = tells p (Fails x); undo = [] }
+      | Ok y ↦ run_from (suc p) os (put o y cs) (ns ++ (y ∷ [])) (noted o cs us)
+      | Err x ↦ record { cells = undone us cs; outcome = tells p (Err x); undo = [] }
     ])) [
-      | Number y ↦
+      | Ok y ↦
           let x = run_left ct (suc p) os (put o y cs) (ns ++ (y ∷ [])) (noted o cs us) (and_right (ltb o.cell ct) _ h) (omega arith) (omega (arith, length-append ns (y ∷ []))) (noted_in (writes o.code)) in
           record { inside = x.inside; few = omega (arith, x.few, noted_few (writes o.code)); numbers = x.numbers; place = x.place }
-      | Fails x ↦ record { inside = refl; few = omega arith; numbers = omega arith; place = omega arith }
+      | Err x ↦ record { inside = refl; few = omega arith; numbers = omega arith; place = omega arith }
     ]
   where
     entry : Undo

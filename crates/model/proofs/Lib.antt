@@ -23,3 +23,4 @@ pub mod Merging
 pub mod Running
 pub mod Codes
 pub mod Unique
+pub mod KindWords

@@ -7,13 +7,12 @@ use mathlib.Core.Path.{◌≡◌, refl, sym, ap, ◌∙◌}
 use mathlib.Core.Bool.{Bool, true, false}
 use mathlib.Core.List.{List, [], ◌∷◌, ◌++◌, append_assoc, append-nil}
 use lib.Dec.{eqb}
-use Rattle.model.specs.Operations.{Cells, content, operate, put, writes, operations, tells}
+use Rattle.model.specs.Operations.{Cells, Did, content, operate, put, writes, operations, tells}
 use Rattle.model.specs.Steps.{undone, noted, Ran, run_from, run}
 use Rattle.model.specs.declared.Op.{Op}
 use Rattle.model.specs.declared.Fragment.{Fragment}
 use Rattle.model.specs.declared.Undo.{Undo}
-use Rattle.model.specs.declared.Did.{Did}
-use Rattle.model.specs.declared.Did.TheVariants.{Number, Fails}
+use Rattle.std.specs.Prelude.{Ok, Err}
 use Rattle.model.proofs.Undoing.{undone_append}
 
 -- with the earlier entries us: kept where nothing failed, undone too where something did
@@ -38,16 +37,16 @@ from_earlier us p [] cs ns own h = refl
 from_earlier us p (o ∷ os) cs ns own h =
     elim (operate o cs)
     as (λ d. by (us ++ own) d ≡ with_earlier us (by own d)) [
-      | Number y ↦ ap (run_from (suc p) os (put o y cs) (ns ++ (y ∷ []))) (noted_earlier o cs us own) ∙ from_earlier us (suc p) os (put o y cs) (ns ++ (y ∷ [])) (noted o cs own) (omega arith)
-      | Fails x ↦
-          (λ i. record { cells = undone_append us own cs i; outcome = tells p (Fails x); undo = [] })
-          ∙ ap {B = Ran} (λ (b : Bool). joined_by b us (record { cells = undone own cs; outcome = tells p (Fails x); undo = [] })) (sym (ne_eqb p 0 (λ e. omega arith)))
+      | Ok y ↦ ap (run_from (suc p) os (put o y cs) (ns ++ (y ∷ []))) (noted_earlier o cs us own) ∙ from_earlier us (suc p) os (put o y cs) (ns ++ (y ∷ [])) (noted o cs own) (omega arith)
+      | Err x ↦
+          (λ i. record { cells = undone_append us own cs i; outcome = tells p (Err x); undo = [] })
+          ∙ ap {B = Ran} (λ (b : Bool). joined_by b us (record { cells = undone own cs; outcome = tells p (Err x); undo = [] })) (sym (ne_eqb p 0 (λ e. omega arith)))
     ]
   where
     by : List Undo → Did → Ran
     by vs d = elim d [
-      | Number y ↦ run_from (suc p) os (put o y cs) (ns ++ (y ∷ [])) (noted o cs vs)
-      | Fails x ↦ record { cells = undone vs cs; outcome = tells p (Fails x); undo = [] }
+      | Ok y ↦ run_from (suc p) os (put o y cs) (ns ++ (y ∷ [])) (noted o cs vs)
+      | Err x ↦ record { cells = undone vs cs; outcome = tells p (Err x); undo = [] }
     ]
 
 pub run_earlier : (f : Fragment) (cs : Cells) (us : List Undo) → run f cs us ≡ with_earlier us (run f cs [])
@@ -61,14 +60,14 @@ from_few p [] cs ns us = (omega arith, omega arith)
 from_few p (o ∷ os) cs ns us =
     elim (operate o cs)
     as (λ d. (length (by d).undo ≤ length us + suc (length os)) × (length (by d).outcome.numbers ≤ length ns + suc (length os))) [
-      | Number y ↦ let r = from_few (suc p) os (put o y cs) (ns ++ (y ∷ [])) (noted o cs us) in (omega (arith, r.0, few (writes o.code)), omega (arith, r.1, length-append ns (y ∷ [])))
-      | Fails x ↦ (omega arith, omega arith)
+      | Ok y ↦ let r = from_few (suc p) os (put o y cs) (ns ++ (y ∷ [])) (noted o cs us) in (omega (arith, r.0, few (writes o.code)), omega (arith, r.1, length-append ns (y ∷ [])))
+      | Err x ↦ (omega arith, omega arith)
     ]
   where
     by : Did → Ran
     by d = elim d [
-      | Number y ↦ run_from (suc p) os (put o y cs) (ns ++ (y ∷ [])) (noted o cs us)
-      | Fails x ↦ record { cells = undone us cs; outcome = tells p (Fails x); undo = [] }
+      | Ok y ↦ run_from (suc p) os (put o y cs) (ns ++ (y ∷ [])) (noted o cs us)
+      | Err x ↦ record { cells = undone us cs; outcome = tells p (Err x); undo = [] }
     ]
 
     few : (w : Bool) → length {A = Undo} (elim w [ true ↦ us ++ (record { cell = o.cell; old = content o cs } ∷ []) | false ↦ us ]) ≤ suc (length us)

@@ -11,7 +11,7 @@ use Rattle.model.specs.Serial.{or_else}
 use Rattle.model.specs.Steps.{undone, noted, Ran, run_from}
 use Rattle.model.specs.declared.Op.{Op}
 use Rattle.model.specs.declared.Undo.{Undo}
-use Rattle.model.specs.declared.Did.TheVariants.{Number, Fails}
+use Rattle.std.specs.Prelude.{Ok, Err}
 
 -- the newer part of a list of entries goes first
 pub undone_append : (a b : List Undo) (cs : Cells) → undone (a ++ b) cs ≡ undone a (undone b cs)
@@ -40,10 +40,10 @@ run_agrees b p [] cs ns us h = record { tells = refl; stands = refl; back = h }
 run_agrees b p (o ∷ os) cs ns us h =
     elim (operate o cs)
     as (λ d. Agree b
-    (elim d [ Number y ↦ run_from (suc p) os (put o y cs) (ns ++ (y ∷ [])) (noted o cs us) | Fails x ↦ record { cells = undone us cs; outcome = tells p (Fails x); undo = [] } ])
-    (elim d [ Number y ↦ trial_from (suc p) os (put o y cs) (ns ++ (y ∷ [])) | Fails x ↦ Broke p x ])) [
-      | Number y ↦ run_agrees b (suc p) os (put o y cs) (ns ++ (y ∷ [])) (noted o cs us) (put_back o y cs us ∙ h)
-      | Fails x ↦ record { tells = refl; stands = h; back = h }
+    (elim d [ Ok y ↦ run_from (suc p) os (put o y cs) (ns ++ (y ∷ [])) (noted o cs us) | Err x ↦ record { cells = undone us cs; outcome = tells p (Err x); undo = [] } ])
+    (elim d [ Ok y ↦ trial_from (suc p) os (put o y cs) (ns ++ (y ∷ [])) | Err x ↦ Broke p x ])) [
+      | Ok y ↦ run_agrees b (suc p) os (put o y cs) (ns ++ (y ∷ [])) (noted o cs us) (put_back o y cs us ∙ h)
+      | Err x ↦ record { tells = refl; stands = h; back = h }
     ]
 
 -- the place of failure is never 0, which stands for none
@@ -55,7 +55,7 @@ pub trial_placed : (p : ℕ) (os : List Op) (cs : Cells) (ns : List ℕ) → 0 <
 unfolding trial_from
 trial_placed p [] cs ns h = tt
 trial_placed p (o ∷ os) cs ns h =
-    elim (operate o cs) as (λ d. Placed (elim d [ Number y ↦ trial_from (suc p) os (put o y cs) (ns ++ (y ∷ [])) | Fails x ↦ Broke p x ])) [
-      | Number y ↦ trial_placed (suc p) os (put o y cs) (ns ++ (y ∷ [])) (omega arith)
-      | Fails x ↦ h
+    elim (operate o cs) as (λ d. Placed (elim d [ Ok y ↦ trial_from (suc p) os (put o y cs) (ns ++ (y ∷ [])) | Err x ↦ Broke p x ])) [
+      | Ok y ↦ trial_placed (suc p) os (put o y cs) (ns ++ (y ∷ [])) (omega arith)
+      | Err x ↦ h
     ]

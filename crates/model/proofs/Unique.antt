@@ -1,6 +1,6 @@
 -- "Any two outcomes allowed by it are proved equal": what that says of a function's contract, and how it is shown.
 use Prim.Native.Nat.{ℕ}
-use mathlib.Core.Path.{◌≡◌}
+use mathlib.Core.Path.{◌≡◌, refl, sym, ◌∙◌}
 use mathlib.Core.List.{List}
 use seplogic.Ra.Ura.{Ura}
 use base.Logic.{ent}
@@ -9,6 +9,8 @@ use contract.Conj.{conj, conj_l, conj_r}
 use contract.Monad.{fact, fact_i, fact_use}
 use denote.Triple.Entry.{Args, Res}
 use denote.Triple.Clauses.{Ended, Clauses, Lasts, at_exit}
+use Rattle.model.proofs.KindTryFromU32.try_from.Kinds as kind-try-from-kinds
+use Rattle.model.proofs.KindTryFromU32.try_from.Reads as kind-try-from
 use borrow.Fn.Kinds.{ParamKind, ResultKind, Dens, res_t, ended_of, Out}
 
 -- `Learnt` is the contract itself, as the checker hands it to whoever calls the function (each function's Reads has its own; its Kinds
@@ -32,3 +34,6 @@ module _ {M : Type 1} (𝓤 : Ura M) (T : Ended) where
 pub both_facts : {M : Type 1} (𝓤 : Ura M) (P Q R : Type 0) → (P → Q → R) → ent 𝓤 (conj 𝓤 (fact 𝓤 P) (fact 𝓤 Q)) (fact 𝓤 R)
 both_facts 𝓤 P Q R f =
     fact_use 𝓤 P (conj_l 𝓤 (fact 𝓤 P) (fact 𝓤 Q)) (λ x. fact_use 𝓤 Q (conj_r 𝓤 (fact 𝓤 P) (fact 𝓤 Q)) (λ y. fact_i 𝓤 R (conj 𝓤 (fact 𝓤 P) (fact 𝓤 Q)) (f x y)))
+
+pub kind_try_from_unique : Unique kind-try-from-kinds.ps kind-try-from-kinds.r kind-try-from.Learnt
+kind_try_from_unique κs a z z' ws ws' p q = (p ∙ sym q, refl)

@@ -9,3 +9,4 @@ pub mod Schemes
 pub mod Merged
 pub mod Depot
 pub mod Parts
+pub mod Kinds

@@ -1,10 +1,8 @@
 -- Document 01, "Cells and operations": the table of codes, one operation, a fragment run by itself.
-use Rattle.std.specs.Prelude.{ℕ, suc, ◌+◌, ◌-◌, ◌/◌, ◌%◌, Bool, true, false, ◌&&◌, List, [], ◌∷◌, ◌++◌, leb, ltb, eqb, set, get_or, take}
+use Rattle.std.specs.Prelude.{ℕ, suc, ◌+◌, ◌-◌, ◌/◌, ◌%◌, Bool, true, false, ◌&&◌, List, [], ◌∷◌, ◌++◌, Result, Ok, Err, leb, ltb, eqb, set, get_or, take}
 use Rattle.model.specs.Limits.{TOP}
 use Rattle.model.specs.declared.Op.{Op}
 use Rattle.model.specs.declared.Fragment.{Fragment}
-use Rattle.model.specs.declared.Did.{Did}
-use Rattle.model.specs.declared.Did.TheVariants.{Number, Fails}
 
 -- "A partition is 1 to 4,096 cells, numbered from 0"
 abbrev pub Cells : Type 0
@@ -13,6 +11,11 @@ Cells = List ℕ
 abbrev pub pick : {A : Type 0} → Bool → A → A → A
 pick true a b = a
 pick false a b = b
+
+-- What one operation does: "Each operation that does not fail gives one number: the cell's content after it." By 02, L4: "A failing operation
+-- now gives the number it found".
+abbrev pub Did : Type 0
+Did = Result ℕ ℕ
 
 -- "One table of codes says for each whether v is used, whether it may write and whether it may fail": a row for each column, a place for
 -- each code from 0, which is no code, over 1 read, 2 set, 3 add, 4 take, 5 need, 6 match and 7 raise to 8 lower.
@@ -46,21 +49,21 @@ may_fail code = get_or fails_row code false
 unfoldable pub meaning : ℕ → ℕ → ℕ → Did
 meaning code x v =
     -- read: nothing
-    pick (eqb code 1) (Number x)
+    pick (eqb code 1) (Ok x)
     -- set: "cell becomes v"
-    (pick (eqb code 2) (Number v)
+    (pick (eqb code 2) (Ok v)
     -- add: "cell + v", "if above TOP"
-    (pick (eqb code 3) (pick (ltb TOP (x + v)) (Fails x) (Number (x + v)))
+    (pick (eqb code 3) (pick (ltb TOP (x + v)) (Err x) (Ok (x + v)))
     -- take: "cell − v", "if cell < v"
-    (pick (eqb code 4) (pick (ltb x v) (Fails x) (Number (x - v)))
+    (pick (eqb code 4) (pick (ltb x v) (Err x) (Ok (x - v)))
     -- need: nothing, "if cell < v"
-    (pick (eqb code 5) (pick (ltb x v) (Fails x) (Number x))
+    (pick (eqb code 5) (pick (ltb x v) (Err x) (Ok x))
     -- match: nothing, "if cell ≠ v"
-    (pick (eqb code 6) (pick (eqb x v) (Number x) (Fails x))
+    (pick (eqb code 6) (pick (eqb x v) (Ok x) (Err x))
     -- raise: "larger of cell and v"
-    (pick (eqb code 7) (pick (ltb x v) (Number v) (Number x))
+    (pick (eqb code 7) (pick (ltb x v) (Ok v) (Ok x))
     -- lower: "smaller of cell and v"
-    (pick (eqb code 8) (pick (ltb v x) (Number v) (Number x)) (Fails x))))))))
+    (pick (eqb code 8) (pick (ltb v x) (Ok v) (Ok x)) (Err x))))))))
 
 abbrev pub content : Op → Cells → ℕ
 content o cs = get_or cs o.cell 0
@@ -92,8 +95,8 @@ pub record Outcome : Type 0 where
 -- What each case of an operation's answer tells at place p: "gives one number", or, failing, "the place 1 to 8 of the failing operation" with
 -- what 02, L4, says where 01 has "no numbers": "A failing operation now gives the number it found; the failed answer has count 1 and that number."
 abbrev pub tells : ℕ → Did → Outcome
-tells p (Number y) = record { place = 0; numbers = y ∷ [] }
-tells p (Fails x) = record { place = p; numbers = x ∷ [] }
+tells p (Ok y) = record { place = 0; numbers = y ∷ [] }
+tells p (Err x) = record { place = p; numbers = x ∷ [] }
 
 -- A fragment by itself: to its end, with the cells and "one number" for each operation, or to a failing one, with its "place 1 to 8" and "the
 -- number it found".
@@ -105,7 +108,7 @@ pub data Trial : Type 0 where
 unfoldable pub trial_from : ℕ → List Op → Cells → List ℕ → Trial
 trial_from p [] cs ns = Done cs ns
 trial_from p (o ∷ os) cs ns =
-    elim (operate o cs) [ Number y ↦ trial_from (suc p) os (put o y cs) (ns ++ (y ∷ [])) | Fails x ↦ Broke p x ]
+    elim (operate o cs) [ Ok y ↦ trial_from (suc p) os (put o y cs) (ns ++ (y ∷ [])) | Err x ↦ Broke p x ]
 
 abbrev pub trial : Fragment → Cells → Trial
 trial f cs = trial_from 1 (operations f) cs []
@@ -113,4 +116,4 @@ trial f cs = trial_from 1 (operations f) cs []
 -- "The one-at-a-time run says so too." (02, L4): at a failing operation it tells what `tells` says
 abbrev pub told : Trial → Outcome
 told (Done cs ns) = record { place = 0; numbers = ns }
-told (Broke p x) = tells p (Fails x)
+told (Broke p x) = tells p (Err x)

@@ -1,12 +1,11 @@
 -- Document 01, "The steps": a fragment's run with undo entries, undoing, drain, arrival, commit and abort; the commit as 02's L6 amends it.
-use Rattle.std.specs.Prelude.{ℕ, suc, ◌+◌, Bool, true, false, not, ◌&&◌, ◌||◌, List, [], ◌∷◌, ◌++◌, map, ltb, eqb, length, set}
+use Rattle.std.specs.Prelude.{ℕ, suc, ◌+◌, Bool, true, false, not, ◌&&◌, ◌||◌, List, [], ◌∷◌, ◌++◌, Ok, Err, map, ltb, eqb, length, set}
 use Rattle.model.specs.Limits.{depth}
 use Rattle.model.specs.Operations.{Cells, Outcome, content, operate, put, writes, multi, last, operations, tells}
 use Rattle.model.specs.Transactions.{State, Running, Finished, Failed, finished, Reply, Held, Sent, NoReply, Uncommitted, Waiting, Answer, answer, undo_list}
 use Rattle.model.specs.declared.Op.{Op}
 use Rattle.model.specs.declared.Fragment.{Fragment}
 use Rattle.model.specs.declared.Undo.{Undo}
-use Rattle.model.specs.declared.Did.TheVariants.{Number, Fails}
 use Rattle.model.specs.declared.Scheme.{Scheme}
 use Rattle.model.specs.declared.Scheme.TheVariants.{Speculation, Blocking}
 
@@ -32,8 +31,8 @@ unfoldable pub run_from : ℕ → List Op → Cells → List ℕ → List Undo �
 run_from p [] cs ns us = record { cells = cs; outcome = record { place = 0; numbers = ns }; undo = us }
 run_from p (o ∷ os) cs ns us =
     elim (operate o cs) [
-      | Number y ↦ run_from (suc p) os (put o y cs) (ns ++ (tells p (Number y)).numbers) (noted o cs us)
-      | Fails x ↦ record { cells = undone us cs; outcome = tells p (Fails x); undo = [] }
+      | Ok y ↦ run_from (suc p) os (put o y cs) (ns ++ (tells p (Ok y)).numbers) (noted o cs us)
+      | Err x ↦ record { cells = undone us cs; outcome = tells p (Err x); undo = [] }
     ]
 
 -- run a fragment of a transaction that owns the entries us

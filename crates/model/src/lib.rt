@@ -1,6 +1,9 @@
 // The values that document 01 speaks of, as every crate passes them, and its limits. What they mean is in specs/; nothing here runs.
 #![tactic(auto)]
 
+ghost use Rattle.std.specs.Prelude.{◌≡◌};
+ghost use Rattle.model.specs.Kinds.{kind_of};
+
 // "each a whole number from 0 to 4,294,967,295 (called TOP)"
 pub const TOP: u32 = 4294967295;
 // "A partition is 1 to 4,096 cells"
@@ -49,14 +52,6 @@ pub struct Event {
     pub fragment: Fragment,
 }
 
-// What one operation does: "Each operation that does not fail gives one number: the cell's content after it." By 02, L4: "A failing operation
-// now gives the number it found".
-#[derive(Clone, Copy)]
-pub enum Did {
-    Number(u32),
-    Fails(u32),
-}
-
 // "Undo entries (cell, old number)"
 #[derive(Clone, Copy)]
 pub struct Undo {
@@ -70,4 +65,32 @@ pub struct Undo {
 pub enum Scheme {
     Speculation,
     Blocking,
+}
+
+// What an event asks for: "kind (1 fragment, 2 commit, 3 abort)"
+#[derive(Clone, Copy, Debug, PartialEq, Eq)]
+pub enum Kind {
+    Fragment = 1,
+    Commit = 2,
+    Abort = 3,
+}
+
+// "event kind not 1 to 3": a word that is no event's kind.
+#[derive(Clone, Copy, Debug, PartialEq, Eq)]
+pub struct UnknownKind(pub u32);
+
+// The kind that a word stands for.
+impl TryFrom<u32> for Kind {
+    type Error = UnknownKind;
+
+    ghost try_from_gives = { λ word r. r ≡ kind_of word };
+
+    fn try_from(word: u32) -> Result<Self, UnknownKind> {
+        match word {
+            1 => Ok(Kind::Fragment),
+            2 => Ok(Kind::Commit),
+            3 => Ok(Kind::Abort),
+            _ => Err(UnknownKind(word)),
+        }
+    }
 }

@@ -9,17 +9,16 @@ use mathlib.Core.List.{List, [], ◌∷◌, ◌++◌, append_assoc, map}
 use lib.ListN.{length, get_or, set, take, drop, replicate, length-append, length-replicate, length-take, length-map, drop_of_length-le}
 use lib.Dec.{leb, eqb}
 use borrow.Author.Tests.{leb-true, leb-false, eq-eqb, ne_eqb}
-use lib.Seq.{take_all, take-suc, take-suc-set, set_at, drop-cons, get_or-take, get_or_at, get_or-append-add}
-use Rattle.model.specs.Operations.{Cells, content, operate, meaning, put, writes, operations, tells}
+use lib.Seq.{take_all, set_at, drop-cons, get_or-take, get_or_at, get_or-append-add, take-suc, take-suc-set}
+use Rattle.model.specs.Operations.{Cells, Did, content, operate, meaning, put, writes, operations, tells}
 use Rattle.model.specs.Steps.{undone, noted, run_from, run}
 use Rattle.model.specs.Steps as Steps
 use Rattle.model.proofs.Undoing.{undone_append}
-use Rattle.model.proofs.Running.{joined_by, run_earlier, run_numbers}
+use Rattle.model.proofs.Running.{joined_by, run_earlier}
 use Rattle.model.specs.declared.Op.{Op}
 use Rattle.model.specs.declared.Fragment.{Fragment}
 use Rattle.model.specs.declared.Undo.{Undo}
-use Rattle.model.specs.declared.Did.{Did}
-use Rattle.model.specs.declared.Did.TheVariants.{Number, Fails}
+use Rattle.std.specs.Prelude.{Ok, Err}
 use Rattle.operations.specs.declared.Operated.{Operated}
 use Rattle.operations.specs.declared.Ran.{Ran}
 use Rattle.operations.specs.Laid.{operated, afterwards, entry_at, entries_of, flat, padded, note_count, note_row, laid, told}
@@ -35,21 +34,21 @@ module _ (o : Op) (cs : Cells) (x : ℕ) (d : Did) (ex : x ≡ get_or cs o.cell 
   unfolding operated
   operated_as d' e = λ i. record { did = (sym e ∙ did_is) i; old = ex i }
 
-  after_by : (d' : Did) → d ≡ d' → elim d' as (λ _. Cells) [ Number y ↦ put o y cs | Fails z ↦ cs ] ≡ afterwards o cs
+  after_by : (d' : Did) → d ≡ d' → elim d' as (λ _. Cells) [ Ok y ↦ put o y cs | Err z ↦ cs ] ≡ afterwards o cs
   unfolding afterwards
-  after_by d' e = ap {B = Cells} (λ (z : Did). elim z [ Number y ↦ put o y cs | Fails z ↦ cs ]) (sym e ∙ did_is)
+  after_by d' e = ap {B = Cells} (λ (z : Did). elim z [ Ok y ↦ put o y cs | Err z ↦ cs ]) (sym e ∙ did_is)
 
   put_by : (y : ℕ) (w : Bool) → w ≡ writes o.code → elim w as (λ _. Cells) [ true ↦ set cs o.cell y | false ↦ cs ] ≡ put o y cs
   put_by y w e = ap {B = Cells} (λ (z : Bool). elim z [ true ↦ set cs o.cell y | false ↦ cs ]) e
 
-  pub after_writes : (y : ℕ) → d ≡ Number y → (w : Bool) → w ≡ writes o.code → w ≡ true → (cs' : Cells) → cs' ≡ set cs o.cell y → cs' ≡ afterwards o cs
-  after_writes y e w ew et cs' h = h ∙ put_by y true (sym et ∙ ew) ∙ after_by (Number y) e
+  pub after_writes : (y : ℕ) → d ≡ Ok y → (w : Bool) → w ≡ writes o.code → w ≡ true → (cs' : Cells) → cs' ≡ set cs o.cell y → cs' ≡ afterwards o cs
+  after_writes y e w ew et cs' h = h ∙ put_by y true (sym et ∙ ew) ∙ after_by (Ok y) e
 
-  pub after_reads : (y : ℕ) → d ≡ Number y → (w : Bool) → w ≡ writes o.code → w ≡ false → cs ≡ afterwards o cs
-  after_reads y e w ew et = put_by y false (sym et ∙ ew) ∙ after_by (Number y) e
+  pub after_reads : (y : ℕ) → d ≡ Ok y → (w : Bool) → w ≡ writes o.code → w ≡ false → cs ≡ afterwards o cs
+  after_reads y e w ew et = put_by y false (sym et ∙ ew) ∙ after_by (Ok y) e
 
-  pub after_fails : (z : ℕ) → d ≡ Fails z → cs ≡ afterwards o cs
-  after_fails z e = after_by (Fails z) e
+  pub after_fails : (z : ℕ) → d ≡ Err z → cs ≡ afterwards o cs
+  after_fails z e = after_by (Err z) e
 
 -- Rows of entries
 
@@ -172,8 +171,8 @@ module _ (o : Op) (cs : Cells) (us : List Undo) (k : ℕ) (e : length us ≡ k) 
 module _ (p : ℕ) (o : Op) (os : List Op) (cs : Cells) (ns : List ℕ) (us : List Undo) where
   abbrev by : Did → Steps.Ran
   by d = elim d [
-    | Number y ↦ run_from (suc p) os (put o y cs) (ns ++ (y ∷ [])) (noted o cs us)
-    | Fails x ↦ record { cells = undone us cs; outcome = tells p (Fails x); undo = [] }
+    | Ok y ↦ run_from (suc p) os (put o y cs) (ns ++ (y ∷ [])) (noted o cs us)
+    | Err x ↦ record { cells = undone us cs; outcome = tells p (Err x); undo = [] }
   ]
 
   pub run_by : (d : Did) → operate o cs ≡ d → run_from p (o ∷ os) cs ns us ≡ by d
@@ -196,13 +195,13 @@ unfolding padded
 going_start os cs = record { ns = []; us = []; at_ns = refl; at_us = refl; here = refl; many = refl; few = omega arith; rest = refl }
 
 module _ (os : List Op) (cs₀ cells numbers own : List ℕ) (entries i : ℕ) (g : Going os cs₀ cells numbers own entries i) where
-  pub numbers_length : i ≤ 8 → length numbers ≡ 8
-  numbers_length h = ap length g.at_ns ∙ length-padded 8 g.ns (omega (arith, g.here))
-
   pub own_length : i ≤ 8 → length own ≡ 16
   own_length h = ap length g.at_us ∙ length-padded 16 (flat g.us) (omega (arith, length-flat g.us, g.many, g.few))
 
-  module _ (o : Op) (next : drop i os ≡ o ∷ drop (suc i) os) (s : Operated) (ds : Cells) (es : s ≡ operated o cells) (ed : ds ≡ afterwards o cells) where
+  module _ (o : Op) (onward : drop i os ≡ o ∷ drop (i + 1) os) (s : Operated) (ds : Cells) (es : s ≡ operated o cells) (ed : ds ≡ afterwards o cells) where
+    next : drop i os ≡ o ∷ drop (suc i) os
+    next = onward ∙ ap {B = List Op} (λ (x : ℕ). o ∷ drop x os) (add-one i)
+
     did : (d : Did) → s.did ≡ d → operate o cells ≡ d
     unfolding operated
     did d e = sym (ap (λ (x : Operated). x.did) es) ∙ e
@@ -211,11 +210,11 @@ module _ (os : List Op) (cs₀ cells numbers own : List ℕ) (entries i : ℕ) (
     unfolding operated
     old_is = ap (λ (x : Operated). x.old) es
 
-    stands : (d : Did) → s.did ≡ d → ds ≡ elim d as (λ _. Cells) [ Number y ↦ put o y cells | Fails x ↦ cells ]
+    stands : (d : Did) → s.did ≡ d → ds ≡ elim d as (λ _. Cells) [ Ok y ↦ put o y cells | Err x ↦ cells ]
     unfolding afterwards
-    stands d e = ed ∙ ap {B = Cells} (λ (z : Did). elim z [ Number y ↦ put o y cells | Fails x ↦ cells ]) (did d e)
+    stands d e = ed ∙ ap {B = Cells} (λ (z : Did). elim z [ Ok y ↦ put o y cells | Err x ↦ cells ]) (did d e)
 
-    pub going_turn : (y : ℕ) → s.did ≡ Number y → i < 8 → (numbers' own' : List ℕ) (entries' : ℕ) → numbers' ≡ set numbers i y → entries' ≡ note_count o entries
+    pub going_turn : (y : ℕ) → s.did ≡ Ok y → i < 8 → (numbers' own' : List ℕ) (entries' : ℕ) → numbers' ≡ set numbers i y → entries' ≡ note_count o entries
         → own' ≡ note_row o s.old entries own → Going os cs₀ ds numbers' own' entries' (i + 1)
     going_turn y e h numbers' own' entries' en ee eo =
         let k : entries < 8 = omega (arith, g.few) in
@@ -229,29 +228,29 @@ module _ (os : List Op) (cs₀ cells numbers own : List ℕ) (entries i : ℕ) (
           many = note_count_lem o cells g.us entries g.many k ∙ sym ee;
           few = omega (arith, ee, note_few o cells g.us entries g.many k, g.few);
           rest = ap (λ (x : ℕ). run_from (suc x) (drop x os) ds (g.ns ++ (y ∷ [])) (noted o cells g.us)) (add-one i)
-              ∙ ap (λ (x : Cells). run_from (suc (suc i)) (drop (suc i) os) x (g.ns ++ (y ∷ [])) (noted o cells g.us)) (stands (Number y) e)
-              ∙ sym (run_by (suc i) o (drop (suc i) os) cells g.ns g.us (Number y) (did (Number y) e))
+              ∙ ap (λ (x : Cells). run_from (suc (suc i)) (drop (suc i) os) x (g.ns ++ (y ∷ [])) (noted o cells g.us)) (stands (Ok y) e)
+              ∙ sym (run_by (suc i) o (drop (suc i) os) cells g.ns g.us (Ok y) (did (Ok y) e))
               ∙ ap (λ (x : List Op). run_from (suc i) x cells g.ns g.us) (sym next) ∙ g.rest;
         }
 
-    pub going_fails : (x : ℕ) → s.did ≡ Fails x → (cs' : Cells) → cs' ≡ undone (entries_of own 0 entries) ds
-        → record { cells = cs'; outcome = tells (i + 1) (Fails x); undo = [] } ≡ run_from 1 os cs₀ [] []
+    pub going_fails : (x : ℕ) → s.did ≡ Err x → (cs' : Cells) → cs' ≡ undone (entries_of own 0 entries) ds
+        → record { cells = cs'; outcome = tells (i + 1) (Err x); undo = [] } ≡ run_from 1 os cs₀ [] []
     going_fails x e cs' eu =
         let back : cs' ≡ undone g.us cells =
-        eu ∙ ap (undone (entries_of own 0 entries)) (stands (Fails x) e) ∙ ap (λ (l : List Undo). undone l cells) (ap (λ (l : List ℕ). entries_of l 0 entries) g.at_us ∙ ap (entries_of (padded 16 (flat g.us)) 0) (sym g.many) ∙ entries_padded 16 g.us) in
-        (λ j. record { cells = back j; outcome = tells (add-one i j) (Fails x); undo = [] })
-        ∙ sym (run_by (suc i) o (drop (suc i) os) cells g.ns g.us (Fails x) (did (Fails x) e))
+        eu ∙ ap (undone (entries_of own 0 entries)) (stands (Err x) e) ∙ ap (λ (l : List Undo). undone l cells) (ap (λ (l : List ℕ). entries_of l 0 entries) g.at_us ∙ ap (entries_of (padded 16 (flat g.us)) 0) (sym g.many) ∙ entries_padded 16 g.us) in
+        (λ j. record { cells = back j; outcome = tells (add-one i j) (Err x); undo = [] })
+        ∙ sym (run_by (suc i) o (drop (suc i) os) cells g.ns g.us (Err x) (did (Err x) e))
         ∙ ap (λ (l : List Op). run_from (suc i) l cells g.ns g.us) (sym next) ∙ g.rest
 
-  pub going_done : drop i os ≡ [] → record { cells = cells; outcome = record { place = 0; numbers = g.ns }; undo = g.us } ≡ run_from 1 os cs₀ [] []
+  pub going_done : length os ≤ i → record { cells = cells; outcome = record { place = 0; numbers = g.ns }; undo = g.us } ≡ run_from 1 os cs₀ [] []
   unfolding run_from
-  going_done e = ap (λ (x : List Op). run_from (suc i) x cells g.ns g.us) (sym e) ∙ g.rest
+  going_done h = ap (λ (x : List Op). run_from (suc i) x cells g.ns g.us) (sym (drop_of_length-le os {i = i} h)) ∙ g.rest
 
-  pub going_laid : record { place = 0; count = i; numbers = numbers; entries = entries; undo = own } ≡ laid (record { cells = cells; outcome = record { place = 0; numbers = g.ns }; undo = g.us })
+  pub going_laid : (n : ℕ) → n ≡ i → record { place = 0; count = n; numbers = numbers; entries = entries; undo = own } ≡ laid (record { cells = cells; outcome = record { place = 0; numbers = g.ns }; undo = g.us })
   unfolding laid
-  going_laid = λ j. record { place = 0; count = sym g.here j; numbers = g.at_ns j; entries = sym g.many j; undo = g.at_us j }
+  going_laid n e = λ j. record { place = 0; count = (e ∙ sym g.here) j; numbers = g.at_ns j; entries = sym g.many j; undo = g.at_us j }
 
-pub failed_laid : (cs : Cells) (p x : ℕ) → record { place = p; count = 1; numbers = x ∷ replicate 7 0; entries = 0; undo = replicate 16 0 } ≡ laid (record { cells = cs; outcome = tells p (Fails x); undo = [] })
+pub failed_laid : (cs : Cells) (p x : ℕ) → record { place = p; count = 1; numbers = x ∷ replicate 7 0; entries = 0; undo = replicate 16 0 } ≡ laid (record { cells = cs; outcome = tells p (Err x); undo = [] })
 unfolding laid padded
 failed_laid cs p x = refl
 
@@ -267,27 +266,21 @@ take-least n m l e = go (leb n m) refl
     go true h = let k : n ≤ m = leb-true n m h in let z : min n m ≡ n = omega arith in ap (λ (x : ℕ). take x l) z
     go false h = let k : m < n = leb-false n m h in take_all (min n m) l (omega arith) ∙ sym (take_all n l (omega arith))
 
-pub take_places : (n : ℕ) (l : List Op) → length l ≡ 8 → take (min n 8) l ≡ take n l
-take_places n l e = take-least n 8 l e
-
-pub drop-places : (n : ℕ) (l : List Op) → length l ≡ 8 → drop (min n 8) l ≡ drop n l
-drop-places n l e = go (leb n 8) refl
-  where
-    go : (b : Bool) → leb n 8 ≡ b → drop (min n 8) l ≡ drop n l
-    go true h = let k : n ≤ 8 = leb-true n 8 h in let z : min n 8 ≡ n = omega arith in ap (λ (x : ℕ). drop x l) z
-    go false h = let k : 8 < n = leb-false n 8 h in drop_of_length-le l {i = min n 8} (omega arith) ∙ sym (drop_of_length-le l {i = n} (omega arith))
-
 pub operations_of : (f : Fragment) → length f.row ≡ 8 → take (min f.count 8) f.row ≡ operations f
 unfolding operations
 operations_of f e = take-least f.count 8 f.row e
 
-pub next_of_lem : (row : List Op) (n i : ℕ) (d : Op) → length row ≡ 8 → n ≤ 8 → i < n → drop i (take n row) ≡ get_or row i d ∷ drop (suc i) (take n row)
-next_of_lem row n i d e k h =
-    let l : length (take n row) ≡ n = length-take n row ∙ omega arith in
-    drop-cons (take n row) i d (omega arith) ∙ ap {B = List Op} (λ (x : Op). x ∷ drop (suc i) (take n row)) (get_or-take n row i d h)
+-- how many there are
+pub operations_many : (f : Fragment) → length f.row ≡ 8 → length (operations f) ≡ min f.count 8
+unfolding operations
+operations_many f e = length-take f.count f.row ∙ ap (min f.count) e
 
-pub none_of : (row : List Op) (n i : ℕ) → n ≤ i → drop i (take n row) ≡ []
-none_of row n i h = drop_of_length-le (take n row) {i = i} (omega (arith, length-take n row))
+-- the i-th
+pub operations_next : (f : Fragment) (i : ℕ) (d : Op) → i < length (operations f) → drop i (operations f) ≡ get_or f.row i d ∷ drop (i + 1) (operations f)
+unfolding operations
+operations_next f i d h =
+    drop-cons (take f.count f.row) i d h ∙ ap {B = List Op} (λ (x : Op). x ∷ drop (suc i) (take f.count f.row)) (get_or-take f.count f.row i d (omega (arith, length-take f.count f.row, h)))
+    ∙ ap {B = List Op} (λ (x : ℕ). get_or f.row i d ∷ drop x (take f.count f.row)) (sym (add-one i))
 
 -- what a read past the end of a row of operations would give
 abbrev pub no_op : Op
@@ -311,22 +304,13 @@ op_of l b i d h =
     at c (suc n) zero h = let e : c ≡ c + 3 * 0 = omega arith in ap (op_at l) e
     at c (suc n) (suc k) h = let e : c + 3 + 3 * k ≡ c + 3 * suc k = omega arith in at (c + 3) n k (omega arith) ∙ ap (op_at l) e
 
-module _ (l : List ℕ) (b n : ℕ) where
-  pub next_op : (i : ℕ) (o : Op) → n ≤ 8 → i < n → o ≡ op_at l (b + 4 + 3 * i) → drop i (take n (fragment_at l b).row) ≡ o ∷ drop (suc i) (take n (fragment_at l b).row)
-  unfolding fragment_at
-  next_op i o k h e =
-      next_of_lem (fragment_at l b).row n i no_op refl k h ∙ ap {B = List Op} (λ (x : Op). x ∷ drop (suc i) (take n (fragment_at l b).row)) (op_of l b i no_op (omega arith) ∙ sym e)
+pub words_many : (l : List ℕ) (b : ℕ) → length (operations (fragment_at l b)) ≡ min (get_or l (b + 3) 0) 8
+unfolding fragment_at
+words_many l b = operations_many (fragment_at l b) refl
 
-  pub operations_at : (c : ℕ) → c ≡ get_or l (b + 3) 0 → n ≡ min c 8 → take n (fragment_at l b).row ≡ operations (fragment_at l b)
-  unfolding fragment_at
-  operations_at c ec en = ap (λ (m : ℕ). take m (fragment_at l b).row) (en ∙ ap (λ (m : ℕ). min m 8) ec) ∙ operations_of (fragment_at l b) refl
-
--- its run gives at most eight numbers, whatever the words are
-pub numbers_few : (l : List ℕ) (b : ℕ) (cs : Cells) → length (run (fragment_at l b) cs []).outcome.numbers ≤ 8
-unfolding fragment_at operations
-numbers_few l b cs =
-    let f : Fragment = fragment_at l b in
-    omega (arith, run_numbers (fragment_at l b) cs, length-take f.count f.row)
+pub words_next : (l : List ℕ) (b i : ℕ) (o : Op) → i < length (operations (fragment_at l b)) → o ≡ op_at l (b + 4 + 3 * i) → drop i (operations (fragment_at l b)) ≡ o ∷ drop (i + 1) (operations (fragment_at l b))
+words_next l b i o h e =
+    operations_next (fragment_at l b) i no_op h ∙ ap {B = List Op} (λ (x : Op). x ∷ drop (i + 1) (operations (fragment_at l b))) (op_of l b i no_op (omega (arith, h, words_many l b)) ∙ sym e)
 
 -- What a run tells is what it gives, without its entries
 

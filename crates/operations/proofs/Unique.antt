@@ -1,6 +1,17 @@
 -- Any two outcomes that the contracts of this crate's public functions allow are equal: what each returns and leaves in what was lent to it.
-use mathlib.Core.Path.{◌≡◌, refl}
+use mathlib.Core.Path.{◌≡◌, refl, sym, ◌∙◌}
+use denote.RattleType.{RattleType}
+use denote.Param.Laws.{Laws, IsCopy}
+use mir.Syntax.{Dict}
+use Rattle.std.specs.declared.clone.Clone as Clone
 use Rattle.model.proofs.Unique.{Unique}
+use Rattle.operations.proofs.code.Code.columns.Kinds as columns-kinds
+use Rattle.operations.proofs.code.Code.columns.Reads as columns
+use Rattle.operations.proofs.code.Code.apply.Kinds as code-apply-kinds
+use Rattle.operations.proofs.code.Code.apply.Reads as code-apply
+use Rattle.operations.proofs.code.CodeTryFromU32.try_from.Kinds as code-try-from-kinds
+use Rattle.operations.proofs.code.CodeTryFromU32.try_from.Reads as code-try-from
+use Rattle.operations.proofs.Codes.{decodes_one}
 use Rattle.operations.proofs.is_known.Kinds as is-known-kinds
 use Rattle.operations.proofs.is_known.Reads as is_known
 use Rattle.operations.proofs.uses_amount.Kinds as uses-amount-kinds
@@ -33,8 +44,19 @@ use Rattle.operations.proofs.is_formed_op.Kinds as is-formed-op-kinds
 use Rattle.operations.proofs.is_formed_op.Reads as is-formed-op
 use Rattle.operations.proofs.is_blank_op.Kinds as is-blank-op-kinds
 use Rattle.operations.proofs.is_blank_op.Reads as is-blank-op
+use Rattle.operations.proofs.is_formed_kind.Kinds as is-formed-kind-kinds
+use Rattle.operations.proofs.is_formed_kind.Reads as is-formed-kind
 use Rattle.operations.proofs.is_formed.Kinds as is-formed-kinds
 use Rattle.operations.proofs.is_formed.Reads as is-formed
+
+pub columns_unique : Unique columns-kinds.ps columns-kinds.r columns.Learnt
+columns_unique κs a z z' ws ws' p q = (λ i. record { uses_amount = (p.0 ∙ sym q.0) i; may_write = (p.1.0 ∙ sym q.1.0) i; may_fail = (p.1.1 ∙ sym q.1.1) i }, refl)
+
+pub code_apply_unique : Unique code-apply-kinds.ps code-apply-kinds.r code-apply.Learnt
+code_apply_unique κs a z z' ws ws' p q = (cc, refl)
+
+pub code_try_from_unique : Unique code-try-from-kinds.ps code-try-from-kinds.r code-try-from.Learnt
+code_try_from_unique κs a z z' ws ws' p q = (decodes_one _ z z' p q, refl)
 
 pub is_known_unique : Unique is-known-kinds.ps is-known-kinds.r is_known.Learnt
 is_known_unique κs a z z' ws ws' p q = (cc, refl)
@@ -54,8 +76,8 @@ apply_unique κs a z z' ws ws' p q = (cc, refl)
 pub number_at_unique : Unique number-at-kinds.ps number-at-kinds.r number_at.Learnt
 number_at_unique κs a z z' ws ws' p q = (cc, refl)
 
-pub put_at_unique : Unique put-at-kinds.ps put-at-kinds.r put-at.Learnt
-put_at_unique κs a z z' ws ws' p q =
+pub put_at_unique : (T : RattleType) (laws : Laws T) (copy : IsCopy T) (clone : Clone.Ghosts T.Denot) (d : Dict) → Unique (put-at-kinds.ps T laws copy) (put-at-kinds.r T laws copy) (put-at.Learnt T laws copy clone d)
+put_at_unique T laws copy clone d κs a z z' ws ws' p q =
     let b : ws.0 ≡ ws'.0 = cc in
     (refl, λ j. (b j, ws.1))
 
@@ -95,6 +117,9 @@ is_formed_op_unique κs a z z' ws ws' p q = (cc, refl)
 
 pub is_blank_op_unique : Unique is-blank-op-kinds.ps is-blank-op-kinds.r is-blank-op.Learnt
 is_blank_op_unique κs a z z' ws ws' p q = (cc, refl)
+
+pub is_formed_kind_unique : Unique is-formed-kind-kinds.ps is-formed-kind-kinds.r is-formed-kind.Learnt
+is_formed_kind_unique κs a z z' ws ws' p q = (cc, refl)
 
 pub is_formed_unique : Unique is-formed-kinds.ps is-formed-kinds.r is-formed.Learnt
 is_formed_unique κs a z z' ws ws' p q = (cc, refl)

@@ -1,10 +1,9 @@
 -- How a run's lists stand in rows of numbers, unused places zero; what one operation leaves.
-use Rattle.std.specs.Prelude.{ℕ, zero, suc, ◌+◌, ◌*◌, ◌-◌, true, false, List, [], ◌∷◌, ◌++◌, length, get_or, set, replicate}
+use Rattle.std.specs.Prelude.{ℕ, zero, suc, ◌+◌, ◌*◌, ◌-◌, true, false, List, [], ◌∷◌, ◌++◌, Ok, Err, length, get_or, set, replicate}
 use Rattle.model.specs.Operations.{Cells, content, operate, put, writes}
 use Rattle.model.specs.Steps as Steps
 use Rattle.model.specs.declared.Op.{Op}
 use Rattle.model.specs.declared.Undo.{Undo}
-use Rattle.model.specs.declared.Did.TheVariants.{Number, Fails}
 use Rattle.operations.specs.declared.Operated.{Operated}
 use Rattle.operations.specs.declared.Ran.{Ran}
 use Rattle.operations.specs.declared.Told.{Told}
@@ -15,7 +14,7 @@ operated o cs = record { did = operate o cs; old = content o cs }
 
 -- the cells after it
 unfoldable pub afterwards : Op → Cells → Cells
-afterwards o cs = elim (operate o cs) [ Number y ↦ put o y cs | Fails x ↦ cs ]
+afterwards o cs = elim (operate o cs) [ Ok y ↦ put o y cs | Err x ↦ cs ]
 
 -- the undo entry that stands in l at place b: a cell and its old number
 abbrev pub entry_at : List ℕ → ℕ → Undo

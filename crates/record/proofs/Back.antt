@@ -87,7 +87,7 @@ module _ (row : List ℕ) (A : List Waiting) (t : Waiting) (B : List Waiting) (b
 
   pub fragment_back : fragment_at (over row (all_rows (A ++ t ∷ B))) b ≡ t.fragment
   fragment_back =
-      fragment_same (over row (all_rows (A ++ t ∷ B))) b (row_words t.number t.attempt t.fragment) 0 (λ k h. row_read k h ∙ (let z : k ≡ 0 + k = omega arith in ap (λ (x : ℕ). get_or (row_words t.number t.attempt t.fragment) x 0) z))
+      fragment_same (over row (all_rows (A ++ t ∷ B))) b (row_words t.number t.attempt t.fragment) 0 (λ k h. row_read k (omega arith) ∙ (let z : k ≡ 0 + k = omega arith in ap (λ (x : ℕ). get_or (row_words t.number t.attempt t.fragment) x 0) z))
       ∙ fragment_of_words t.number t.attempt t.fragment et
 
   pub number_back : get_or (over row (all_rows (A ++ t ∷ B))) b 0 ≡ t.number

@@ -1,11 +1,12 @@
--- The event that words stand for, from its parts; and the words that stand for an event, read back.
+-- The event that words stand for, its kind and its eight places; and the words that stand for an event, read back.
 use Prim.Native.Nat.{ℕ}
 use mathlib.Core.Bool.{Bool}
 use mathlib.Core.Path.{◌≡◌, refl, ap, sym, ◌∙◌}
 use mathlib.Core.List.{List, [], ◌∷◌, ◌++◌}
 use lib.Dec.{eqb}
-use lib.ListN.{length, get_or, replicate}
-use lib.Seq.{sets}
+use lib.ListN.{length, get_or}
+use Rattle.std.specs.List.{copy_within}
+use Rattle.std.specs.Prelude.{slice_set}
 use Rattle.model.specs.Limits.{event_words}
 use Rattle.model.specs.Operations.{pick}
 use Rattle.model.specs.declared.Op.{Op}
@@ -14,17 +15,13 @@ use Rattle.model.specs.declared.Fragment.{Fragment}
 use Rattle.operations.proofs.Turns.{no_op}
 use Rattle.record.specs.Widths.{ops_end}
 use Rattle.record.specs.Words.{ops_words, row_words}
-use Rattle.record.specs.View.{fragment_at, numbers_from}
+use Rattle.record.specs.View.{fragment_at}
 use Rattle.record.specs.Events.{event_of, words_of}
 use Rattle.record.proofs.Rows.{eight}
 
 pub kind_by : (b : Bool) (l : List ℕ) → eqb (length l) event_words ≡ b → pick b (get_or l 0 0) 0 ≡ (event_of l).kind
 unfolding event_of
 kind_by b l t = ap (λ (c : Bool). pick c (get_or l 0 0) 0) (sym t)
-
-pub event_by : (b : Bool) (l : List ℕ) (k n : ℕ) (f : Fragment) → eqb (length l) event_words ≡ b → k ≡ pick b (get_or l 0 0) 0 → n ≡ get_or l 1 0 → f ≡ fragment_at l 1 → record { kind = k; number = n; fragment = f } ≡ event_of l
-unfolding event_of
-event_by b l k n f t ke ne fe i = record { kind = (ke ∙ kind_by b l t) i; number = ne i; fragment = fe i }
 
 -- whatever the words are, its row has eight places
 pub event_eight : (l : List ℕ) → length (event_of l).fragment.row ≡ 8
@@ -39,10 +36,10 @@ module _ (v : Event) (h : length v.fragment.row ≡ 8) where
   abbrev words : List Op → List ℕ
   words os = v.kind ∷ v.number ∷ f.flags ∷ f.coordinator ∷ f.count ∷ ops_words os
 
-  pub event_laid : sets (replicate event_words v.kind) 1 (numbers_from (row_words v.number 0 f) 0 ops_end) ≡ words_of v
-  unfolding row_words numbers_from words_of
+  pub event_laid : slice_set (copy_within (row_words v.number 0 f) 0 ops_end 1) 0 v.kind ≡ words_of v
+  unfolding row_words words_of
   event_laid =
-      ap (λ (os : List Op). sets (replicate event_words v.kind) 1 (numbers_from (v.number ∷ f.flags ∷ f.coordinator ∷ f.count ∷ ops_words os ++ (0 ∷ [])) 0 ops_end)) (sym (eight no_op f.row h))
+      ap (λ (os : List Op). slice_set (copy_within (v.number ∷ f.flags ∷ f.coordinator ∷ f.count ∷ ops_words os ++ (0 ∷ [])) 0 ops_end 1) 0 v.kind) (sym (eight no_op f.row h))
       ∙ ap {B = List ℕ} words (eight no_op f.row h)
 
   pub event_back : event_of (words_of v) ≡ v

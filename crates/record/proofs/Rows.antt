@@ -8,36 +8,20 @@ use mathlib.Core.Bool.{Bool, true, false}
 use lib.Dec.{ltb, eqb}
 use mathlib.Core.List.{List, [], ◌∷◌, ◌++◌, append_assoc, append-nil, map}
 use lib.ListN.{length, get_or, set, take, drop, replicate, length-append, length-replicate, length-set, length-take, length-drop, get_or-eq_default, get_or-append, get_or-replicate}
-use lib.Seq.{sets, sets-eq, length-sets, get_or-set_same, get_or-set_other, ext_get_or, take_at, drop_at, drop-append-add, drop-drop, get_or-append-add, get_or-take, get_or-drop}
+use borrow.Rule.Slice.PartMut.{put_mid}
+use Rattle.std.proofs.lemmas.Slice.{put_mid-paste}
+use Rattle.std.proofs.lemmas.List.{take_all}
+use Rattle.std.specs.List.{copy_within}
+use lib.Seq.{paste, sets, sets-eq, length-sets, get_or-set_same, get_or-set_other, ext_get_or, take_at, drop_at, drop-append-add, drop-drop, get_or-append-add, get_or-take, get_or-drop}
 use Rattle.model.specs.declared.Op.{Op}
 use Rattle.model.specs.declared.Fragment.{Fragment}
 use Rattle.operations.specs.Laid.{padded}
 use Rattle.operations.proofs.Turns.{no_op, length-padded}
 use Rattle.record.specs.Words.{ops_words, row_words, over, cleared}
 use Rattle.record.specs.View.{op_at, fragment_at, numbers_from, shifted, zeros}
-use Rattle.record.specs.Widths.{live_width}
+use Rattle.record.specs.Widths.{ops_end, live_width}
 use Rattle.record.specs.Walk.{places}
 use Rattle.record.proofs.Walks.{read_length, read_add, read_at, read_whole, walk_on, walk_end}
-
--- one turn of laying, from a place of the words on; its start and its end
-pub lay_turn : (row row' words all : List ℕ) (at from n i w : ℕ) → i < n → w ≡ get_or words (from + i) 0 → row' ≡ set row (at + i) w → sets row (at + i) (numbers_from words (from + i) (n - i)) ≡ all
-    → sets row' (at + (i + 1)) (numbers_from words (from + (i + 1)) (n - (i + 1))) ≡ all
-unfolding numbers_from
-lay_turn row row' words all at from n i w h ew er inv =
-    let p : at + (i + 1) ≡ suc (at + i) = omega arith in
-    (λ j. sets ((er ∙ ap (set row (at + i)) ew) j) (p j) (numbers_from words (from + (i + 1)) (n - (i + 1))))
-    ∙ walk_on (λ (x : ℕ). x + 1) (λ (x : List ℕ). sets row (at + i) (map (λ (q : ℕ). get_or words q 0) x)) (from + i) (n - i) all inv (from + (i + 1)) (n - (i + 1)) (omega arith) (omega arith)
-
-pub lay_start : (row words : List ℕ) (at from n : ℕ) → sets row (at + 0) (numbers_from words (from + 0) (n - 0)) ≡ sets row at (numbers_from words from n)
-lay_start row words at from n =
-    let a : at + 0 ≡ at = omega arith in
-    let f : from + 0 ≡ from = omega arith in
-    let b : n - 0 ≡ n = omega arith in
-    λ j. sets row (a j) (numbers_from words (f j) (b j))
-
-pub lay_end : (row words all : List ℕ) (at from n i : ℕ) → n ≤ i → sets row (at + i) (numbers_from words (from + i) (n - i)) ≡ all → row ≡ all
-unfolding numbers_from
-lay_end row words all at from n i h inv = walk_end (λ (x : ℕ). x + 1) (λ (x : List ℕ). sets row (at + i) (map (λ (q : ℕ). get_or words q 0) x)) (from + i) (n - i) all inv (omega arith)
 
 -- reading what a row holds
 
@@ -83,15 +67,15 @@ numbers_whole l = read_whole 0 l
 pub numbers_padded : (n : ℕ) (l : List ℕ) (m : ℕ) → length l ≡ m → numbers_from (padded n l) 0 m ≡ l
 numbers_padded n l m e = ap (numbers_from (padded n l) 0) (sym e) ∙ numbers_same (padded n l) l 0 0 (length l) (λ k h. get_or-padded n l (0 + k)) ∙ numbers_whole l
 
--- Runs of stores, one by one
+-- Runs of stores
+
+-- a part of a row that holds w now: k places from i on
+pub put_sets : (l w : List ℕ) (i k : ℕ) → length w ≡ k → i + k ≤ length l → put_mid i k l w ≡ sets l i w
+put_sets l w i k e h = put_mid-paste i k l w w k refl refl (sym e) ∙ (λ j. take i l ++ take_all k w (omega arith) j ++ drop (i + sym e j) l) ∙ sym (sets-eq w l i (omega arith))
 
 pub numbers_snoc : (l : List ℕ) (b n : ℕ) → numbers_from l b (suc n) ≡ numbers_from l b n ++ (get_or l (b + n) 0 ∷ [])
 unfolding numbers_from
 numbers_snoc l b n = ap (numbers_from l b) (sym (add-one n)) ∙ numbers_add l b n 1
-
-sets_snoc : (l : List ℕ) (i : ℕ) (ws : List ℕ) (w : ℕ) → sets l i (ws ++ (w ∷ [])) ≡ set (sets l i ws) (i + length ws) w
-sets_snoc l i [] w = let z : i ≡ i + 0 = omega arith in ap (λ (x : ℕ). set l x w) z
-sets_snoc l i (a ∷ ws) w = let z : suc i + length ws ≡ i + suc (length ws) = omega arith in sets_snoc (set l i a) (suc i) ws w ∙ ap (λ (x : ℕ). set (sets (set l i a) (suc i) ws) x w) z
 
 pub get_or-sets_after : (l : List ℕ) (i : ℕ) (ws : List ℕ) (x : ℕ) → i + length ws ≤ x → get_or (sets l i ws) x 0 ≡ get_or l x 0
 get_or-sets_after l i [] x h = refl
@@ -104,17 +88,6 @@ get_or-sets_in l ws x h k =
 pub get_or-numbers : (l : List ℕ) (b n x : ℕ) → x < n → get_or (numbers_from l b n) x 0 ≡ get_or l (b + x) 0
 unfolding numbers_from
 get_or-numbers l b n x h = read_at (λ (p : ℕ). get_or l p 0) 1 0 b n x (b + x) h (omega arith)
-
--- one turn of shifting: place k + i has not been written yet
-pub shift_turn : (row₀ row row' : List ℕ) (k i w : ℕ) → row ≡ sets row₀ 0 (numbers_from row₀ k i) → w ≡ get_or row (k + i) 0 → row' ≡ set row i w → row' ≡ sets row₀ 0 (numbers_from row₀ k (i + 1))
-shift_turn row₀ row row' k i w inv ew er =
-    let li : length (numbers_from row₀ k i) ≡ i = length-numbers row₀ k i in
-    let old : w ≡ get_or row₀ (k + i) 0 = ew ∙ ap (λ (x : List ℕ). get_or x (k + i) 0) inv ∙ get_or-sets_after row₀ 0 (numbers_from row₀ k i) (k + i) (omega arith) in
-    let at : 0 + length (numbers_from row₀ k i) ≡ i = omega arith in
-    er ∙ (λ j. set (inv j) i (old j))
-    ∙ ap (λ (x : ℕ). set (sets row₀ 0 (numbers_from row₀ k i)) x (get_or row₀ (k + i) 0)) (sym at)
-    ∙ sym (sets_snoc row₀ 0 (numbers_from row₀ k i) (get_or row₀ (k + i) 0))
-    ∙ ap (sets row₀ 0) (sym (numbers_snoc row₀ k i)) ∙ ap (λ (x : ℕ). sets row₀ 0 (numbers_from row₀ k x)) (sym (add-one i))
 
 pub get_d_sets_before : (l : List ℕ) (i : ℕ) (ws : List ℕ) (x : ℕ) → x < i → get_or (sets l i ws) x 0 ≡ get_or l x 0
 get_d_sets_before l i [] x h = refl
@@ -134,33 +107,69 @@ get_or-sets_at l i (a ∷ ws) x h k m = go (eqb x i) refl (λ p q r. get_or-sets
         let z : x - i ≡ suc (x - suc i) = omega arith in
         f (omega arith) (omega arith) (omega (arith, length-set l i a)) ∙ ap (λ (q : ℕ). get_or (a ∷ ws) q 0) (sym z)
 
--- words copied out of a row that may end before them, and the fragment that they are
-pub copied_out : (row : List ℕ) (at m n : ℕ) → n ≡ min m (length row - at) → sets (zeros m) 0 (numbers_from row at n) ≡ numbers_from row at m
-copied_out row at m n e =
-    ext_get_or 0 (sets (zeros m) 0 (numbers_from row at n)) (numbers_from row at m) (length-sets (zeros m) 0 (numbers_from row at n) ∙ lz ∙ sym (length-numbers row at m))
-    (λ x hx. go x (omega (arith, lz, length-sets (zeros m) 0 (numbers_from row at n))) (ltb x n) refl)
+-- n words of a row, all of them there
+pub numbers_in : (row : List ℕ) (at n s stop : ℕ) → stop ≤ length row → s ≡ min stop at → n ≤ stop - s → take n (drop s row) ≡ numbers_from row at n
+numbers_in row at n s stop h es en =
+    ext_get_or 0 (take n (drop s row)) (numbers_from row at n) (lt ∙ sym (length-numbers row at n)) (λ x hx. go x (omega (arith, lt)))
   where
-    lz : length (zeros m) ≡ m
-    lz = length-replicate m 0
+    lt : length (take n (drop s row)) ≡ n
+    lt = length-take n (drop s row) ∙ omega (arith, length-drop s row)
 
-    go : (x : ℕ) → x < m → (b : Bool) → ltb x n ≡ b → get_or (sets (zeros m) 0 (numbers_from row at n)) x 0 ≡ get_or (numbers_from row at m) x 0
-    go x h true t =
-        let y : x < n = ltb-true x n t in
-        get_or-sets_in (zeros m) (numbers_from row at n) x (omega (arith, lz, length-numbers row at n)) (omega (arith, length-numbers row at n)) ∙ get_or-numbers row at n x y ∙ sym (get_or-numbers row at m x h)
-    go x h false t =
-        let y : n ≤ x = ltb-false x n t in
-        let z : get_or (zeros m) x 0 ≡ 0 = get_or-replicate m x 0 0 h in
-        get_or-sets_after (zeros m) 0 (numbers_from row at n) x (omega (arith, length-numbers row at n)) ∙ z ∙ sym (get_or-numbers row at m x h ∙ get_or-eq_default row 0 {n = at + x} (omega arith))
+    go : (x : ℕ) → x < n → get_or (take n (drop s row)) x 0 ≡ get_or (numbers_from row at n) x 0
+    go x hx = let z : s + x ≡ at + x = omega arith in get_or-take n (drop s row) x 0 hx ∙ get_or-drop s row x 0 ∙ ap (λ (q : ℕ). get_or row q 0) z ∙ sym (get_or-numbers row at n x hx)
 
--- l from b on and m from c on agree on a transaction's words
+-- past its end
+numbers_past : (row : List ℕ) (b n : ℕ) → (0 < n → length row ≤ b) → numbers_from row b n ≡ zeros n
+unfolding numbers_from
+numbers_past row b zero h = refl
+numbers_past row b (suc n) h =
+    let here : length row ≤ b = h (omega arith) in
+    λ i. get_or-eq_default row 0 {n = b} here i ∷ numbers_past row (b + 1) n (λ k. omega arith) i
+
+-- words of a row that may end before them: those that are there, and zeros
+pub numbers_there : (row : List ℕ) (at m s n : ℕ) → s ≡ min (length row) at → n ≡ min (length row - s) m → numbers_from row at m ≡ take n (drop s row) ++ zeros (m - n)
+numbers_there row at m s n es en =
+    let z : m ≡ n + (m - n) = omega arith in
+    ap (numbers_from row at) z ∙ numbers_add row at n (m - n)
+    ∙ (λ i. sym (numbers_in row at n s (length row) (omega arith) es (omega arith)) i ++ numbers_past row (at + n) (m - n) (λ k. omega arith) i)
+
+-- the rest of a row of zeros
+pub zeros_rest : (a n : ℕ) → zeros (n - a) ≡ drop a (zeros n)
+zeros_rest zero n = let z : n - 0 ≡ n = omega arith in ap zeros z
+zeros_rest (suc a) zero = let z : 0 - suc a ≡ 0 = omega arith in ap zeros z
+zeros_rest (suc a) (suc n) = let z : suc n - suc a ≡ n - a = omega arith in ap zeros z ∙ zeros_rest a n
+
+-- words copied out over a row of zeros
+pub copied_out : (row : List ℕ) (at m s n : ℕ) → s ≡ min (length row) at → n ≡ min (length row - s) m → take n (drop s row) ++ drop n (zeros m) ≡ numbers_from row at m
+copied_out row at m s n es en = ap (λ (x : List ℕ). take n (drop s row) ++ x) (sym (zeros_rest n m)) ∙ sym (numbers_there row at m s n es en)
+
+-- one turn of laying words, and its end
+module _ (row words all : List ℕ) (at n i : ℕ) (inv : sets row (at + i) (numbers_from words i (n - i)) ≡ all) where
+  pub lay_turn : (row' : List ℕ) (w : ℕ) → i < n → w ≡ get_or words i 0 → row' ≡ set row (at + i) w → sets row' (at + (i + 1)) (numbers_from words (i + 1) (n - (i + 1))) ≡ all
+  unfolding numbers_from
+  lay_turn row' w h ew er =
+      let p : at + (i + 1) ≡ suc (at + i) = omega arith in
+      (λ j. sets ((er ∙ ap (set row (at + i)) ew) j) (p j) (numbers_from words (i + 1) (n - (i + 1))))
+      ∙ walk_on (λ (x : ℕ). x + 1) (λ (x : List ℕ). sets row (at + i) (map (λ (q : ℕ). get_or words q 0) x)) i (n - i) all inv (i + 1) (n - (i + 1)) refl (omega arith)
+
+  pub lay_end : n ≤ i → row ≡ all
+  unfolding numbers_from
+  lay_end h = walk_end (λ (x : ℕ). x + 1) (λ (x : List ℕ). sets row (at + i) (map (λ (q : ℕ). get_or words q 0) x)) i (n - i) all inv (omega arith)
+
+-- words laid that are all there, into places that are
+pub lay_whole : (row words : List ℕ) (at n : ℕ) → n ≤ length words → at + n ≤ length row → put_mid at (at + n - at) row (take n words) ≡ sets row at (numbers_from words 0 n)
+lay_whole row words at n hw hr =
+    put_sets row (take n words) at (at + n - at) (length-take n words ∙ omega arith) (omega arith) ∙ ap (sets row at) (numbers_in words 0 n 0 (length words) (omega arith) (omega arith) (omega arith))
+
+-- l from b on and m from c on agree on a transaction's words but for its attempt
 abbrev pub Agree : List ℕ → ℕ → List ℕ → ℕ → Type 0
-Agree l b m c = (k : ℕ) → k < live_width → get_or l (b + k) 0 ≡ get_or m (c + k) 0
+Agree l b m c = (k : ℕ) → k < ops_end → get_or l (b + k) 0 ≡ get_or m (c + k) 0
 
 module _ (l : List ℕ) (b : ℕ) (m : List ℕ) (c : ℕ) (a : Agree l b m c) where
-  word_same : (x y k : ℕ) → x ≡ b + k → y ≡ c + k → k < live_width → get_or l x 0 ≡ get_or m y 0
+  word_same : (x y k : ℕ) → x ≡ b + k → y ≡ c + k → k < ops_end → get_or l x 0 ≡ get_or m y 0
   word_same x y k ex ey h = ap (λ (z : ℕ). get_or l z 0) ex ∙ a k h ∙ ap (λ (z : ℕ). get_or m z 0) (sym ey)
 
-  op_same : (o : ℕ) → o + 3 ≤ live_width → op_at l (b + o) ≡ op_at m (c + o)
+  op_same : (o : ℕ) → o + 3 ≤ ops_end → op_at l (b + o) ≡ op_at m (c + o)
   op_same o h = λ i. record {
     code = word_same (b + o) (c + o) o refl refl (omega arith) i;
     cell = word_same (b + o + 1) (c + o + 1) (o + 1) (omega arith) (omega arith) (omega arith) i;
@@ -176,22 +185,27 @@ module _ (l : List ℕ) (b : ℕ) (m : List ℕ) (c : ℕ) (a : Agree l b m c) w
     row = op_same 4 (omega arith) i ∷ op_same 7 (omega arith) i ∷ op_same 10 (omega arith) i ∷ op_same 13 (omega arith) i ∷ op_same 16 (omega arith) i ∷ op_same 19 (omega arith) i ∷ op_same 22 (omega arith) i ∷ op_same 25 (omega arith) i ∷ [];
   }
 
-pub fragment_words : (row : List ℕ) (at : ℕ) → fragment_at (numbers_from row at live_width) 0 ≡ fragment_at row at
-fragment_words row at =
-    fragment_same (numbers_from row at live_width) 0 row at (λ k h. (let z : 0 + k ≡ k = omega arith in ap (λ (x : ℕ). get_or (numbers_from row at live_width) x 0) z) ∙ get_or-numbers row at live_width k h)
+-- the fragment that copied words are
+module _ (row : List ℕ) (at : ℕ) where
+  copied_agree : (n : ℕ) → ops_end ≤ n → Agree (numbers_from row at n) 0 row at
+  copied_agree n e k h = (let z : 0 + k ≡ k = omega arith in ap (λ (x : ℕ). get_or (numbers_from row at n) x 0) z) ∙ get_or-numbers row at n k (omega arith)
 
--- one turn of clearing a stretch
-zeros_snoc : (n : ℕ) → zeros (suc n) ≡ zeros n ++ (0 ∷ [])
-zeros_snoc zero = refl
-zeros_snoc (suc n) = ap {B = List ℕ} (λ (x : List ℕ). 0 ∷ x) (zeros_snoc n)
+  pub fragment_words : fragment_at (numbers_from row at live_width) 0 ≡ fragment_at row at
+  fragment_words = fragment_same (numbers_from row at live_width) 0 row at (copied_agree live_width (omega arith))
 
-pub blank_turn : (row₀ row : List ℕ) (from i : ℕ) → from ≤ i → row ≡ sets row₀ from (zeros (i - from)) → set row i 0 ≡ sets row₀ from (zeros (i + 1 - from))
-blank_turn row₀ row from i h inv =
-    let e : i + 1 - from ≡ suc (i - from) = omega arith in
-    let lz : length (zeros (i - from)) ≡ i - from = length-replicate (i - from) 0 in
-    let at : i ≡ from + length (zeros (i - from)) = omega arith in
-    ap (λ (x : List ℕ). set x i 0) inv ∙ ap (λ (x : ℕ). set (sets row₀ from (zeros (i - from))) x 0) at
-    ∙ sym (sets_snoc row₀ from (zeros (i - from)) 0) ∙ ap (sets row₀ from) (sym (zeros_snoc (i - from))) ∙ ap (λ (x : ℕ). sets row₀ from (zeros x)) (sym e)
+  pub fragment_ops : fragment_at (numbers_from row at ops_end) 0 ≡ fragment_at row at
+  fragment_ops = fragment_same (numbers_from row at ops_end) 0 row at (copied_agree ops_end (omega arith))
+
+-- n words moved to a row's start, from k on
+pub moved_down : (row : List ℕ) (k n stop i : ℕ) → stop ≤ length row → i ≡ min k stop → n ≡ stop - k → copy_within row i stop 0 ≡ sets row 0 (numbers_from row k n)
+moved_down row k n stop i h ei en =
+    let e : stop - i ≡ n = omega arith in
+    let w : take n (drop i row) ≡ numbers_from row k n = numbers_in row k n i stop h (omega arith) (omega arith) in
+    let z : 0 + n ≡ 0 + length (numbers_from row k n) = omega (arith, length-numbers row k n) in
+    ap (λ (x : ℕ). paste row 0 (drop i row) x) e
+    ∙ append_assoc [] (take n (drop i row)) (drop (0 + n) row)
+    ∙ (λ j. w j ++ drop (z j) row)
+    ∙ sym (sets-eq (numbers_from row k n) row 0 (omega (arith, length-numbers row k n)))
 
 -- a shift in two parts: what stays is moved, and the places that it leaves are cleared
 pub shift_parts : (row : List ℕ) (k m n stop : ℕ) → stop ≡ min m (length row) → n ≡ stop - k → sets (sets row 0 (numbers_from row k n)) n (zeros (stop - n)) ≡ shifted row k m
@@ -234,6 +248,16 @@ shift_parts row k m n stop es en =
         let y : stop ≤ x = ltb-false x stop e in
         get_or-sets_after moved n (zeros (stop - n)) x (omega (arith, lz)) ∙ get_or-sets_after row 0 (numbers_from row k n) x (omega (arith, length-numbers row k n))
         ∙ sym (get_or-sets_after row 0 (numbers_from src k m) x (omega (arith, length-numbers src k m)))
+
+-- the same as the row's own methods leave it
+pub shift_moved : (row : List ℕ) (k m n stop i : ℕ) → stop ≡ min (length row) m → n ≡ stop - k → i ≡ min k stop → put_mid n (stop - n) (copy_within row i stop 0) (zeros (stop - n)) ≡ shifted row k m
+shift_moved row k m n stop i es en ei =
+    let es' : stop ≡ min m (length row) = omega arith in
+    let moved : copy_within row i stop 0 ≡ sets row 0 (numbers_from row k n) = moved_down row k n stop i (omega arith) ei en in
+    let size : length (sets row 0 (numbers_from row k n)) ≡ length row = length-sets row 0 (numbers_from row k n) in
+    ap (λ (x : List ℕ). put_mid n (stop - n) x (zeros (stop - n))) moved
+    ∙ put_sets (sets row 0 (numbers_from row k n)) (zeros (stop - n)) n (stop - n) (length-replicate (stop - n) 0) (omega (arith, size))
+    ∙ shift_parts row k m n stop es' en
 
 -- shifting by nothing
 pub shifted_none : (row : List ℕ) (m : ℕ) → row ≡ shifted row 0 m
@@ -367,12 +391,7 @@ shift_all row n h =
 -- a row of zeros has them behind any words
 pub padded_over : (n : ℕ) (l : List ℕ) → padded n l ≡ over (zeros n) l
 unfolding padded over
-padded_over n l = ap (λ (x : List ℕ). l ++ x) (go (length l) n)
-  where
-    go : (a n : ℕ) → zeros (n - a) ≡ drop a (zeros n)
-    go zero n = let z : n - 0 ≡ n = omega arith in ap zeros z
-    go (suc a) zero = let z : 0 - suc a ≡ 0 = omega arith in ap zeros z
-    go (suc a) (suc n) = let z : suc n - suc a ≡ n - a = omega arith in ap zeros z ∙ go a n
+padded_over n l = ap (λ (x : List ℕ). l ++ x) (zeros_rest (length l) n)
 
 -- a row that holds words and zeros, cleared as far as its words go: zeros alone
 pub cleared_padded : (m n : ℕ) (l : List ℕ) → length l ≤ n → n ≤ m → cleared n (padded m l) ≡ zeros m

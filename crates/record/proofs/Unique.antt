@@ -27,6 +27,10 @@ use Rattle.record.proofs.Counts.requeues.Kinds as requeues-kinds
 use Rattle.record.proofs.Counts.requeues.Reads as requeues
 use Rattle.record.proofs.attempt_at.Kinds as attempt-at-kinds
 use Rattle.record.proofs.attempt_at.Reads as attempt-at
+use Rattle.record.proofs.is_finished.Kinds as is-finished-kinds
+use Rattle.record.proofs.is_finished.Reads as is-finished
+use Rattle.record.proofs.entries_owned.Kinds as entries-owned-kinds
+use Rattle.record.proofs.entries_owned.Reads as entries-owned
 use Rattle.record.proofs.start.Kinds as start-kinds
 use Rattle.record.proofs.start.Reads as start
 
@@ -75,3 +79,9 @@ attempt_at_unique κs a z z' ws ws' p q = (cc, refl)
 
 pub start_unique : Unique start-kinds.ps start-kinds.r start.Learnt
 start_unique κs a z z' ws ws' p q = (cc, refl)
+
+pub is_finished_unique : Unique is-finished-kinds.ps is-finished-kinds.r is-finished.Learnt
+is_finished_unique κs a z z' ws ws' p q = (cc, refl)
+
+pub entries_owned_unique : Unique entries-owned-kinds.ps entries-owned-kinds.r entries-owned.Learnt
+entries_owned_unique κs a z z' ws ws' p q = (cc, refl)

@@ -2,16 +2,18 @@
 #![tactic(auto)]
 
 ghost use Rattle.record.specs.Widths.{ops_end, live_width};
+ghost use Rattle.std.specs.Fn.{FnOnceReturnsAt};
 ghost use Rattle.std.specs.Prelude.{◌≡◌, ◌+◌, ◌*◌, ◌-◌, ◌<◌, ◌≤◌, min, length, get_or};
 ghost use Rattle.std.proofs.lemmas.List.Edits.{sets};
 ghost use Rattle.model.specs.Refusals as Refusals;
+ghost use Rattle.model.specs.Transactions.{finished};
 ghost use Rattle.record.specs.Words.{row_words, pack};
 ghost use Rattle.record.specs.Events.{event_of, words_of};
 ghost use Rattle.record.specs.Start.{fresh_of};
-ghost use Rattle.record.specs.View.{op_at, fragment_at, attempt_at, numbers_from, shifted, zeros};
+ghost use Rattle.record.specs.View.{op_at, fragment_at, attempt_at, entries_from, numbers_from, shifted, state_of};
 ghost use Rattle.record.specs.Ends.{capped, ends_at, largest_at, largest_by};
 
-use model::{Event, Fragment, Op};
+use model::{Event, Fragment, Kind, Op};
 
 // The layout, in one place: the words of a live transaction, of a run and of an undo entry, as indices and as numbers of a record, and the
 // words of the record's rows, for 64 live ones, 16 uncommitted ones and 184 entries.
@@ -19,14 +21,33 @@ pub const LIVE_WORDS: usize = 29;
 
 pub const RUN_WORDS: usize = 16;
 
-pub const LIVE_WIDTH: u32 = 29;
+pub const LIVE_WIDTH: u32 = LIVE_WORDS as u32;
 
 // where the operations of a live transaction's row begin and end
 pub const OPS_START: usize = 4;
 
 pub const OPS_END: usize = 28;
 
-pub const RUN_WIDTH: u32 = 16;
+pub const RUN_WIDTH: u32 = RUN_WORDS as u32;
+
+// the places of a run's words behind how many fragments ran: state, reply, how many undo entries are its own, and of a held answer the place, how
+// many numbers and where these begin
+pub const RUN_STATE: usize = 1;
+
+pub const RUN_REPLY: usize = 2;
+
+pub const RUN_ENTRIES: usize = 3;
+
+pub const RUN_PLACE: usize = 4;
+
+pub const RUN_COUNT: usize = 5;
+
+pub const RUN_NUMBERS: usize = 6;
+
+// what stands for a reply: sent, or held with the answer behind it
+pub const SENT: u32 = 0;
+
+pub const HELD: u32 = 1;
 
 pub const ENTRY_WIDTH: u32 = 2;
 
@@ -46,46 +67,18 @@ pub struct Counts {
     pub waiting: u32,
 }
 
-// A sum, at most TOP.
-pub(crate) fn sum(a: u32, b: u32) -> u32
-    ensures { result ≡ capped (a + b) }
-{
-    if b <= model::TOP - a {
-        a + b
-    } else {
-        model::TOP
-    }
-}
-
-// One less, 0 where there is none.
-pub(crate) fn one_less(a: u32) -> u32
-    ensures { result ≡ a - 1 }
-{
-    if 0 < a { a - 1 } else { 0 }
-}
-
-// The largest number accepted, after an accepted event.
-pub(crate) fn largest_after(kind: u32, number: u32, largest: u32) -> u32
-    ensures { result ≡ largest_by kind number largest }
-{
-    if kind == 1 {
-        if largest < number { number } else { largest }
-    } else {
-        largest
-    }
-}
-
 // How the queues' ends move. The live ones stand in one row in number order, so that no row moves with them.
 impl Counts {
     // an event is accepted: a fragment with a new number is the largest accepted then
     pub fn accepts(self, kind: u32, number: u32) -> Counts
         ensures { result ≡ largest_at self (largest_by kind number self.largest) }
     {
+        if kind != Kind::Fragment as u32 {
+            return self;
+        }
         Counts {
-            cells: self.cells,
-            largest: largest_after(kind, number, self.largest),
-            uncommitted: self.uncommitted,
-            waiting: self.waiting,
+            largest: self.largest.max(number),
+            ..self
         }
     }
 
@@ -94,10 +87,8 @@ impl Counts {
         ensures { result ≡ ends_at self self.uncommitted (capped (self.waiting + 1)) }
     {
         Counts {
-            cells: self.cells,
-            largest: self.largest,
-            uncommitted: self.uncommitted,
-            waiting: sum(self.waiting, 1),
+            waiting: self.waiting.saturating_add(1),
+            ..self
         }
     }
 
@@ -106,10 +97,9 @@ impl Counts {
         ensures { result ≡ ends_at self (capped (self.uncommitted + 1)) (self.waiting - 1) }
     {
         Counts {
-            cells: self.cells,
-            largest: self.largest,
-            uncommitted: sum(self.uncommitted, 1),
-            waiting: one_less(self.waiting),
+            uncommitted: self.uncommitted.saturating_add(1),
+            waiting: self.waiting.saturating_sub(1),
+            ..self
         }
     }
 
@@ -118,10 +108,8 @@ impl Counts {
         ensures { result ≡ ends_at self (self.uncommitted - 1) self.waiting }
     {
         Counts {
-            cells: self.cells,
-            largest: self.largest,
-            uncommitted: one_less(self.uncommitted),
-            waiting: self.waiting,
+            uncommitted: self.uncommitted.saturating_sub(1),
+            ..self
         }
     }
 
@@ -130,10 +118,9 @@ impl Counts {
         ensures { result ≡ ends_at self 0 (capped (self.uncommitted + self.waiting)) }
     {
         Counts {
-            cells: self.cells,
-            largest: self.largest,
             uncommitted: 0,
-            waiting: sum(self.uncommitted, self.waiting),
+            waiting: self.uncommitted.saturating_add(self.waiting),
+            ..self
         }
     }
 }
@@ -150,87 +137,93 @@ pub struct Record {
     pub undo: [u32; UNDO_LENGTH],
 }
 
-// What starting returns: the number and the record.
+// What starting returns: the number and the record. No `Result`: a refused start too returns a record, the one with 0 cells (`fresh_of`,
+// `start_unique`).
 #[derive(Clone, Copy)]
 pub struct Fresh {
     pub number: u32,
     pub next: Record,
 }
 
-// The operation whose words start at b, all of them there.
-pub(crate) fn op_in(row: &[u32], b: usize) -> Op
-    requires { b + 3 ≤ length row.now }
-    ensures { result ≡ op_at row.now b }
+// The N words from a place on, 0 past the row's end.
+pub(crate) fn copied<const N: usize>(row: &[u32], at: usize) -> [u32; N]
+    ensures { result ≡ numbers_from row.now at N }
 {
-    let c = row[b];
-    let e = row[b + 1];
-    let v = row[b + 2];
-    Op {
-        code: c,
-        cell: e,
-        amount: v,
-    }
-}
-
-pub(crate) fn least(a: usize, b: usize) -> usize
-    ensures { result ≡ min a b }
-{
-    if a < b { a } else { b }
-}
-
-pub(crate) fn less(a: usize, b: usize) -> usize
-    ensures { result ≡ a - b }
-{
-    if b < a { a - b } else { 0 }
-}
-
-// Lays n words from place `from` on, all there, into places that are all there.
-pub(crate) fn lay_in(row: &mut [u32], at: usize, words: &[u32], from: usize, n: usize)
-    requires { (at + n ≤ length row.old) × (n ≤ length words.now - from) }
-    ensures { row.new ≡ sets row.old at (numbers_from words.now from n) }
-{
-    let mut i: usize = 0;
-    while i < n {
-        let w = words[from + i];
-        row[at + i] = w;
-        i = i + 1;
-    }
-}
-
-// The 29 words from a place on, 0 past the row's end. Few calls come here: the loop is as long as what is there, so that it stays a loop and
-// does not spread over the ways that read a row whole.
-pub fn words_from(row: &[u32], at: usize) -> [u32; LIVE_WORDS]
-    ensures { result ≡ numbers_from row.now at live_width }
-{
-    let mut words = [0u32; LIVE_WORDS];
-    let there = less(row.len(), at);
-    let n = least(LIVE_WORDS, there);
-    lay_in(&mut words, 0, row, at, n);
+    let mut words = [0u32; N];
+    let there = &row[row.len().min(at)..];
+    let n = there.len().min(N);
+    words[..n].copy_from_slice(&there[..n]);
     words
 }
 
-// A fragment whose words are all there.
-pub(crate) fn fragment_in(row: &[u32], at: usize) -> Fragment
-    requires { at + ops_end ≤ length row.now }
-    ensures { result ≡ fragment_at row.now at }
+// The 29 words from a place on, 0 past the row's end.
+pub fn words_from(row: &[u32], at: usize) -> [u32; LIVE_WORDS]
+    ensures { result ≡ numbers_from row.now at live_width }
 {
-    let flags = row[at + 1];
-    let coordinator = row[at + 2];
-    let count = row[at + 3];
-    let o0 = op_in(row, at + 4);
-    let o1 = op_in(row, at + 7);
-    let o2 = op_in(row, at + 10);
-    let o3 = op_in(row, at + 13);
-    let o4 = op_in(row, at + 16);
-    let o5 = op_in(row, at + 19);
-    let o6 = op_in(row, at + 22);
-    let o7 = op_in(row, at + 25);
-    let ops = [o0, o1, o2, o3, o4, o5, o6, o7];
+    copied(row, at)
+}
+
+// What f makes of the 28 words from place b on, a live transaction's but for its attempt: of those that stand there where none would stand past the
+// row's end, else of a copy.
+pub(crate) fn on_words<R, F: FnOnce(&[u32; OPS_END]) -> R>(row: &[u32], b: u32, f: F) -> R
+    requires { F.IsAlwaysCallable f }
+    ensures { FnOnceReturnsAt F.FnOnce f (numbers_from row.now b ops_end) result }
+{
+    let at = b as usize;
+    if at + OPS_END <= row.len() {
+        if let Some(words) = row[at..at + OPS_END].first_chunk() {
+            return f(words);
+        }
+    }
+    f(&copied(row, at))
+}
+
+// How far the fragments of an uncommitted one have come, in the order of the words that stand for it in a run.
+#[derive(Clone, Copy, Debug, PartialEq, Eq)]
+pub enum State {
+    Running,
+    Finished,
+    Failed,
+}
+
+// The word of a state that is finished, failed or not.
+pub fn is_finished(word: u32) -> bool
+    ensures { result ≡ finished (state_of word) }
+{
+    word == State::Finished as u32 || word == State::Failed as u32
+}
+
+// The operation whose words start at place b of 28.
+pub(crate) fn op_in(words: &[u32; OPS_END], b: usize) -> Op
+    requires { b + 3 ≤ ops_end }
+    ensures { result ≡ op_at words.now b }
+{
+    Op {
+        code: words[b],
+        cell: words[b + 1],
+        amount: words[b + 2],
+    }
+}
+
+// The fragment that 28 words are. Its operations are named one by one: with `map` over their places no index in the closure is proved below 28.
+#[tactic(auto, unfolding(crate::specs::View::fragment_at))]
+pub(crate) fn fragment_in(words: &[u32; OPS_END]) -> Fragment
+    ensures { result ≡ fragment_at words.now 0 }
+{
     Fragment {
-        flags: flags,
-        coordinator: coordinator,
-        count: count,
-        row: ops,
+        flags: words[1],
+        coordinator: words[2],
+        count: words[3],
+        row: [
+            op_in(words, 4),
+            op_in(words, 7),
+            op_in(words, 10),
+            op_in(words, 13),
+            op_in(words, 16),
+            op_in(words, 19),
+            op_in(words, 22),
+            op_in(words, 25),
+        ],
     }
 }
 
@@ -238,12 +231,7 @@ pub(crate) fn fragment_in(row: &[u32], at: usize) -> Fragment
 pub fn fragment_at(row: &[u32], b: u32) -> Fragment
     ensures { result ≡ fragment_at row.now b }
 {
-    let at = b as usize;
-    if at + OPS_END <= row.len() {
-        return fragment_in(row, at);
-    }
-    let words = words_from(row, at);
-    fragment_in(&words, 0)
+    on_words(row, b, |words| fragment_in(words))
 }
 
 // The attempt of the transaction whose words start at b: the word behind its operations.
@@ -253,19 +241,22 @@ pub fn attempt_at(row: &[u32], b: u32) -> u32
     operations::number_at(row, b as usize + OPS_END)
 }
 
-// The 29 words of a live transaction.
+// How many undo entries the first n runs own together.
+pub fn entries_owned(runs: &[u32], n: u32) -> usize
+    ensures { result ≡ entries_from runs.now 0 n }
+{
+    let mut sum = 0;
+    for i in 0..n as usize {
+        sum += operations::number_at(runs, RUN_WORDS * i + RUN_ENTRIES) as usize;
+    }
+    sum
+}
+
+// The 29 words of a live transaction. They are named one by one: made from their place alone (`from_fn`) each would choose among seven fields.
 pub fn row_words(number: u32, attempt: u32, f: Fragment) -> [u32; LIVE_WORDS]
     ensures { result ≡ row_words number attempt f }
 {
-    let ops = f.row;
-    let a = ops[0];
-    let b = ops[1];
-    let c = ops[2];
-    let d = ops[3];
-    let e = ops[4];
-    let g = ops[5];
-    let h = ops[6];
-    let i = ops[7];
+    let [a, b, c, d, e, g, h, i] = f.row;
     [
         number,
         f.flags,
@@ -300,22 +291,19 @@ pub fn row_words(number: u32, attempt: u32, f: Fragment) -> [u32; LIVE_WORDS]
 }
 
 // The event that words stand for: 29 of them, or one that is not well formed.
+#[tactic(auto, unfolding(crate::specs::Events::event_of))]
 pub fn event_of(words: &[u32]) -> Event
     ensures { result ≡ event_of words.now }
 {
-    let fragment = fragment_at(words, 1);
-    let number = operations::number_at(words, 1);
-    if words.len() != model::EVENT_WORDS as usize {
-        return Event {
-            kind: 0,
-            number: number,
-            fragment: fragment,
-        };
-    }
+    let well_formed = words.len() == model::EVENT_WORDS as usize;
     Event {
-        kind: operations::number_at(words, 0),
-        number: number,
-        fragment: fragment,
+        kind: if well_formed {
+            operations::number_at(words, 0)
+        } else {
+            0
+        },
+        number: operations::number_at(words, 1),
+        fragment: fragment_at(words, 1),
     }
 }
 
@@ -323,62 +311,26 @@ pub fn event_of(words: &[u32]) -> Event
 pub fn event_words(v: Event) -> [u32; model::EVENT_WORDS as usize]
     ensures { result ≡ words_of v }
 {
-    let f = v.fragment;
-    let row = row_words(v.number, 0, f);
-    let mut words = [v.kind; model::EVENT_WORDS as usize];
-    lay_in(&mut words, 1, &row, 0, OPS_END);
+    let mut words = row_words(v.number, 0, v.fragment);
+    words.copy_within(..OPS_END, 1);
+    words[0] = v.kind;
     words
 }
 
-// Lays words of which some, or their places, may stand past an end.
-pub(crate) fn lay_past(row: &mut [u32], at: u32, words: &[u32], n: u32)
-    ensures { row.new ≡ sets row.old at (numbers_from words.now 0 n) }
-{
-    let mut i: usize = 0;
-    while i < n as usize {
-        let w = operations::number_at(words, i);
-        operations::put_at(row, at as usize + i, w);
-        i = i + 1;
-    }
-}
-
-// Lays the first n words into a row from place `at` on; what would stand past its end is not kept.
+// Lays the first n words into a row from place `at` on; what would stand past its end is not kept. Two ways, since n is known at most calls: where all
+// are there this is a copy of n words, else a loop that unrolls, and the compiler keeps the words out of memory. A copy clipped to what is there
+// would be one way for both, and made a drained transaction slower by a fifth.
 pub fn lay(row: &mut [u32], at: u32, words: &[u32], n: u32)
     ensures { row.new ≡ sets row.old at (numbers_from words.now 0 n) }
 {
     let start = at as usize;
     let count = n as usize;
-    if count <= words.len() {
-        if start + count <= row.len() {
-            lay_in(row, start, words, 0, count);
-            return;
-        }
+    if count <= words.len() && start + count <= row.len() {
+        row[start..start + count].copy_from_slice(&words[..count]);
+        return;
     }
-    lay_past(row, at, words, n);
-}
-
-// Moves n words, all there, from k places further on to a row's start.
-pub(crate) fn move_down(row: &mut [u32], k: usize, n: usize)
-    requires { n ≤ length row.old - k }
-    ensures { row.new ≡ sets row.old 0 (numbers_from row.old k n) }
-{
-    let mut i: usize = 0;
-    while i < n {
-        let w = row[k + i];
-        row[i] = w;
-        i = i + 1;
-    }
-}
-
-// Clears the places of a row from `from` to before `to`.
-pub(crate) fn blank(row: &mut [u32], from: usize, to: usize)
-    requires { (from ≤ to) × (to ≤ length row.old) }
-    ensures { row.new ≡ sets row.old from (zeros (to - from)) }
-{
-    let mut i = from;
-    while i < to {
-        row[i] = 0;
-        i = i + 1;
+    for i in 0..count {
+        operations::put_at(row, start + i, operations::number_at(words, i));
     }
 }
 
@@ -391,11 +343,10 @@ pub fn shift(row: &mut [u32], k: u32, m: u32)
         return;
     }
     let from = k as usize;
-    let len = row.len();
-    let stop = least(m as usize, len);
-    let n = less(stop, from);
-    move_down(row, from, n);
-    blank(row, n, stop);
+    let stop = row.len().min(m as usize);
+    let n = stop.saturating_sub(from);
+    row.copy_within(from.min(stop)..stop, 0);
+    row[n..stop].fill(0);
 }
 
 // A record of so many cells with nothing live.

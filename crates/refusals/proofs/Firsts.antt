@@ -1,23 +1,25 @@
--- Laws of the first row that applies, of a walk over live rows, and of a state's word.
-use Prim.Native.Nat.{ℕ, ◌+◌, ◌*◌, ◌-◌, ◌≤◌, ◌<◌}
+-- Laws of the first row that applies, of the numbers of live rows, and of an event's rows.
+use Prim.Native.Nat.{ℕ, zero, suc, ◌+◌, ◌*◌, ◌≤◌, ◌<◌}
 use native.Mathlib.Omega.{arith}
-use mathlib.Core.Path.{◌≡◌, refl, sym, ap, ◌∙◌, subst}
+use mathlib.Core.Path.{◌≡◌, refl, sym, ap, ◌∙◌}
 use mathlib.Core.Bool.{Bool, true, false, not, ◌&&◌, ◌||◌, true≢false}
-use mathlib.Core.List.{List, [], ◌∷◌, ◌++◌, map}
+use mathlib.Core.List.{List, [], ◌∷◌, ◌++◌}
 use lib.Dec.{leb, ltb, eqb}
 use lib.ListN.{length, get_or}
 use borrow.Author.Tests.{eqb-true, eq-eqb, ne_eqb, le-leb, lt-leb}
 use Rattle.model.specs.Limits.{least_room, event_words}
-use Rattle.model.specs.Operations.{Cells, pick}
-use Rattle.model.specs.Transactions.{Engine, Running, Finished, Failed, NoState, finished, failed}
+use Rattle.model.specs.Operations.{Cells}
+use Rattle.model.specs.Transactions.{Engine}
 use Rattle.model.specs.Refusals.{Call, first_of, is_in, rows, refusal, sound, formed, blank, inside}
+use Rattle.std.specs.Prelude.{Result}
+use Rattle.std.specs.List.{list_any, range_with_len}
+use Rattle.model.specs.Kinds.{kind_of}
+use Rattle.model.specs.declared.Kind.{Kind}
+use Rattle.model.specs.declared.UnknownKind.{UnknownKind}
 use Rattle.model.specs.declared.Event.{Event}
 use Rattle.model.specs.declared.Fragment.{Fragment}
-use Rattle.model.proofs.Tests.{and_left, and_right}
-use Rattle.record.specs.View.{state_of}
 use Rattle.record.specs.Events.{event_of}
 use Rattle.record.proofs.Events.{kind_by}
-use Rattle.record.proofs.Walks.{walk_on, walk_end}
 use Rattle.refusals.specs.Rest.{behind_first, row_numbers, arrival_rows, event_rows, shape_rows}
 use Rattle.record.specs.Widths.{live_width}
 
@@ -52,66 +54,15 @@ pub refused_unsound : (e : Engine) (k : Call) → sound e ≡ false → 1 ≡ re
 unfolding refusal rows
 refused_unsound e k h = ap {B = ℕ} (λ (b : Bool). elim (not b) [ true ↦ 1 | false ↦ first_of (behind_first (rows e k)) ]) (sym h)
 
--- the walk: what is left from row i on is the whole
-module _ (l : List ℕ) (n k i : ℕ) (whole : Bool) (inv : is_in k (row_numbers l (live_width * i) (n - i)) ≡ whole) where
-  abbrev found : List ℕ → Bool
-  found ps = is_in k (map (λ (p : ℕ). get_or l p 0) ps)
+-- the numbers of rows that are asked one by one, from row i on
+pub live_any : (l : List ℕ) (k i n : ℕ) → list_any (λ (x : ℕ). eqb (get_or l (live_width * x) 0) k) (range_with_len i n) ≡ is_in k (row_numbers l (live_width * i) n)
+unfolding row_numbers
+live_any l k i zero = refl
+live_any l k i (suc n) =
+    let e : live_width * (i + 1) ≡ live_width * i + live_width = omega arith in
+    ap (λ (b : Bool). eqb (get_or l (live_width * i) 0) k || b) (live_any l k (i + 1) n ∙ ap (λ (p : ℕ). is_in k (row_numbers l p n)) e)
 
-  live_step : i < n → (eqb (get_or l (live_width * i) 0) k || is_in k (row_numbers l (live_width * (i + 1)) (n - (i + 1)))) ≡ whole
-  unfolding row_numbers
-  live_step h = walk_on (λ (p : ℕ). p + live_width) found (live_width * i) (n - i) whole inv (live_width * (i + 1)) (n - (i + 1)) (omega arith) (omega arith)
-
-  module _ (h : i < n) (m : ℕ) (em : m ≡ get_or l (live_width * i) 0) where
-    pub live_on : (m ≡ k → ⊥) → is_in k (row_numbers l (live_width * (i + 1)) (n - (i + 1))) ≡ whole
-    live_on e = ap (λ (x : Bool). x || is_in k (row_numbers l (live_width * (i + 1)) (n - (i + 1)))) (sym (ne_eqb m k e) ∙ ap (λ (x : ℕ). eqb x k) em) ∙ live_step h
-
-    pub live_found : m ≡ k → true ≡ whole
-    live_found e = ap (λ (x : Bool). x || is_in k (row_numbers l (live_width * (i + 1)) (n - (i + 1)))) (sym (eq-eqb m k e) ∙ ap (λ (x : ℕ). eqb x k) em) ∙ live_step h
-
-  pub live_end : n ≤ i → false ≡ whole
-  unfolding row_numbers
-  live_end h = walk_end (λ (p : ℕ). p + live_width) found (live_width * i) (n - i) whole inv (omega arith)
-
-pub live_start : (l : List ℕ) (n m k : ℕ) → n ≡ m → is_in k (row_numbers l (live_width * 0) (n - 0)) ≡ is_in k (row_numbers l 0 m)
-live_start l n m k e = let z : n - 0 ≡ m = omega arith in ap (λ (x : ℕ). is_in k (row_numbers l 0 x)) z
-
--- the words of a state that is finished, or failed
-by_words : (x y : Bool) → finished (pick x Finished (pick y Failed NoState)) ≡ (x || y)
-by_words true y = refl
-by_words false true = refl
-by_words false false = refl
-
-pub finished_word : (n : ℕ) → finished (state_of n) ≡ (eqb n 1 || eqb n 2)
-finished_word n = go (eqb n 0) refl
-  where
-    go : (b : Bool) → eqb n 0 ≡ b → finished (state_of n) ≡ (eqb n 1 || eqb n 2)
-    go true e = subst (λ (x : ℕ). finished (state_of x) ≡ (eqb x 1 || eqb x 2)) (sym (eqb-true n 0 e)) refl
-    go false e = ap (λ (b : Bool). finished (pick b Running (pick (eqb n 1) Finished (pick (eqb n 2) Failed NoState)))) e ∙ by_words (eqb n 1) (eqb n 2)
-
--- of a finished one
-pub failed_word : (n : ℕ) → finished (state_of n) ≡ true → failed (state_of n) ≡ eqb n 2
-failed_word n h = go (eqb n 1) (eqb n 2) refl refl (sym (finished_word n) ∙ h)
-  where
-    go : (x y : Bool) → eqb n 1 ≡ x → eqb n 2 ≡ y → (x || y) ≡ true → failed (state_of n) ≡ eqb n 2
-    go true y e f t = subst (λ (x : ℕ). failed (state_of x) ≡ eqb x 2) (sym (eqb-true n 1 e)) refl
-    go false true e f t = subst (λ (x : ℕ). failed (state_of x) ≡ eqb x 2) (sym (eqb-true n 2 f)) refl
-    go false false e f t = absurd (mathlib.Core.Bool.true≢false (sym t))
-
--- rows 4 and 5 of an arrival's fragment, by whether it is formed and inside
-module _ (f i : Bool) where
-  abbrev arrival : ℕ
-  arrival = first_of ((4, not f) ∷ (5, not i) ∷ [])
-
-  pub arrival_storable : (f && i) ≡ true → 0 ≡ arrival
-  arrival_storable h = λ j. first_of ((4, not (sym (and_left f i h) j)) ∷ (5, not (sym (and_right f i h) j)) ∷ [])
-
-  pub arrival_unformed : f ≡ false → 4 ≡ arrival
-  arrival_unformed e = rw e
-
-  pub arrival_outside : (f && i) ≡ false → f ≡ true → 5 ≡ arrival
-  arrival_outside h e = let o : i ≡ false = ap (λ (x : Bool). x && i) (sym e) ∙ h in rw (e, o)
-
--- and of an event, by its number and its kind
+-- rows 4 and 5 of an event, by its number and its kind
 or_false : (a : Bool) → a ≡ (a || false)
 or_false true = refl
 or_false false = refl
@@ -123,7 +74,7 @@ module _ (count : ℕ) (v : Event) where
   abbrev formed_by : Bool → Bool → Bool → ℕ
   formed_by one two three = first_of ((4, not (leb 1 v.number && (one && formed f || (two || three) && blank f))) ∷ (5, one && not (inside count f)) ∷ [])
 
-  pub event_numberless : v.number < 1 → 4 ≡ first_of (event_rows count v)
+  event_numberless : v.number < 1 → 4 ≡ first_of (event_rows count v)
   event_numberless h = rw (lt-leb 1 v.number h)
 
   pub event_unknown : (v.kind ≡ 1 → ⊥) → (v.kind ≡ 2 → ⊥) → (v.kind ≡ 3 → ⊥) → 4 ≡ first_of (event_rows count v)
@@ -162,9 +113,23 @@ module _ (count : ℕ) (v : Event) where
       pub event_more : blank f ≡ false → 4 ≡ first_of (event_rows count v)
       event_more e = decision false e
 
+-- the kind of an event with all its words is that of its first one
+pub kind_first : (l : List ℕ) (r : Result Kind UnknownKind) → length l ≡ event_words → r ≡ kind_of (get_or l 0 0) → kind_of (event_of l).kind ≡ r
+kind_first l r h e = ap kind_of (sym (kind_by true l (eq-eqb (length l) event_words h))) ∙ sym e
+
+-- an event that has not all its words, or none of its numbers
+pub event_short : (count : ℕ) (l : List ℕ) → (length l ≡ event_words → ⊥) → 4 ≡ first_of (event_rows count (event_of l))
+event_short count l h =
+    let k : 0 ≡ (event_of l).kind = kind_by false l (ne_eqb (length l) event_words h) in
+    event_unknown count (event_of l) (λ e. omega arith) (λ e. omega arith) (λ e. omega arith)
+
+pub event_number_0 : (count : ℕ) (l : List ℕ) → get_or l 1 0 < 1 → 4 ≡ first_of (event_rows count (event_of l))
+unfolding event_of
+event_number_0 count l h = event_numberless count (event_of l) h
+
 -- an event whose shape is right has all its words
-pub shape_length : (count : ℕ) (l : List ℕ) (cells : Cells) (room : List ℕ) (s : ℕ) → s ≡ first_of (shape_rows count (event_of l) cells room) → s ≡ 0 → length l ≡ event_words
-shape_length count l cells room s es z = go (eqb (length l) event_words) refl
+pub shape_length : (count : ℕ) (l : List ℕ) (cells : Cells) (room : List ℕ) → 0 ≡ first_of (shape_rows count (event_of l) cells room) → length l ≡ event_words
+shape_length count l cells room es = go (eqb (length l) event_words) refl
   where
     behind : (a b : Bool) (rs : List (ℕ × Bool)) → first_of ((2, a) ∷ (3, b) ∷ rs) ≡ 0 → first_of rs ≡ 0
     behind true b rs h = absurd (omega (arith, h))
@@ -174,13 +139,5 @@ shape_length count l cells room s es z = go (eqb (length l) event_words) refl
     go : (t : Bool) → eqb (length l) event_words ≡ t → length l ≡ event_words
     go true t = eqb-true (length l) event_words t
     go false t =
-        let k : 0 ≡ (event_of l).kind = kind_by false l t in
-        let four : 4 ≡ first_of (event_rows count (event_of l)) = event_unknown count (event_of l) (λ x. omega arith) (λ x. omega arith) (λ x. omega arith) in
-        absurd (omega (arith, four ∙ behind (ltb (length room) least_room) (eqb (length cells) 0 || not (eqb (length cells) count)) (event_rows count (event_of l)) (sym es ∙ z)))
-
--- rows 8 to 11, and 12 to 14, from what they ask
-abbrev pub asked : (front ready other full ran : Bool) → ℕ
-asked front ready other full ran = first_of ((8, front && ready) ∷ (9, front && other) ∷ (10, full) ∷ (11, front && ran) ∷ [])
-
-abbrev pub decided : (commits fresh front ready broken : Bool) → ℕ
-decided commits fresh front ready broken = first_of ((12, fresh) ∷ (13, commits && (front && not ready)) ∷ (14, commits && (front && broken)) ∷ [])
+        let four = event_short count l (λ e. true≢false (sym (eq-eqb (length l) event_words e) ∙ t)) in
+        absurd (omega (arith, four ∙ behind (ltb (length room) least_room) (eqb (length cells) 0 || not (eqb (length cells) count)) (event_rows count (event_of l)) (sym es)))

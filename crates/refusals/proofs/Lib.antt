@@ -1,3 +1,4 @@
 pub mod Firsts
+pub mod Numbers
 pub mod Tables
 pub mod Unique

@@ -2,7 +2,7 @@
 use Prim.Native.Nat.{ℕ, zero, suc, ◌+◌, ◌*◌}
 use native.Mathlib.Omega.{arith}
 use mathlib.Core.Path.{◌≡◌, refl, sym, ap, ◌∙◌}
-use mathlib.Core.Bool.{Bool, false, not, ◌&&◌, ◌||◌}
+use mathlib.Core.Bool.{Bool, true, false, not, ◌&&◌, ◌||◌}
 use mathlib.Core.List.{List, [], ◌∷◌, ◌++◌, map, map-map}
 use lib.Dec.{leb, ltb, eqb, eqb-suc-zero}
 use lib.ListN.{length, get_or}
@@ -10,14 +10,17 @@ use borrow.Author.Tests.{eq-eqb, ne_eqb}
 use Rattle.model.specs.Limits.{most_fragments, most_live}
 use Rattle.model.specs.Operations.{Cells, multi}
 use Rattle.model.specs.Transactions.{Uncommitted, Waiting, finished, failed, front, numbers}
-use Rattle.model.specs.Refusals.{rows, first_of, is_in}
+use Rattle.model.specs.Refusals.{rows, first_of, refusal, sound, is_in}
 use Rattle.model.specs.declared.Event.{Event}
 use Rattle.model.specs.declared.Scheme.{Scheme}
 use Rattle.record.specs.Walk.{places}
 use Rattle.record.specs.View.{fragment_at, row_at, member_at, uncommitted_of, waiting_of, view_of}
 use Rattle.record.proofs.Queues.{length_waiting, length_uncommitted, rows_live, numbers_rows}
 use Rattle.refusals.specs.Rest.{call_of, behind_first, row_numbers, front_is, foreign, shape_rows, known_rows, fragment_rows, decision_rows}
-use Rattle.refusals.proofs.Firsts.{first_hit, first_miss}
+use Rattle.refusals.specs.Numbers.{number_of}
+use Rattle.refusals.specs.declared.Refusal.{Refusal}
+use Rattle.refusals.proofs.Firsts.{first_hit, first_miss, refused_sound}
+use Rattle.refusals.proofs.Numbers.{number_not_0}
 use Rattle.record.specs.Widths.{live_width}
 
 -- rows 8 to 14, from what they ask
@@ -53,7 +56,7 @@ module _ (live runs undo : List ℕ) where
   front_which zero n p = refl
   front_which (suc u) n p = ap {B = Bool} (λ (b : Bool). not b && eqb (get_or live 0 0) n && p (member_at live 0 runs 0 undo 0)) (sym (eqb-suc-zero u))
 
-module _ (σ : Scheme) (count largest u w : ℕ) (live runs undo : List ℕ) (v : Event) (cells : Cells) (room : List ℕ) where
+module _ (σ : Scheme) (count largest u w : ℕ) (live runs undo : List ℕ) (v : Event) (cells : Cells) (room : List ℕ) (is_sound : sound (view_of count largest u w live runs undo) ≡ true) where
   abbrev lives : Bool
   lives = is_in v.number (row_numbers live 0 (u + w))
 
@@ -64,7 +67,7 @@ module _ (σ : Scheme) (count largest u w : ℕ) (live runs undo : List ℕ) (v 
   is_first = front_is u live v.number
 
   abbrev whole : ℕ
-  whole = first_of (behind_first (rows (view_of count largest u w live runs undo) (call_of σ v cells room)))
+  whole = refusal (view_of count largest u w live runs undo) (call_of σ v cells room)
 
   abbrev of_kind : Bool → Bool → List (ℕ × Bool)
   of_kind arrives commits =
@@ -74,7 +77,7 @@ module _ (σ : Scheme) (count largest u w : ℕ) (live runs undo : List ℕ) (v 
   abbrev rest : List (ℕ × Bool)
   rest = of_kind (eqb v.kind 1) (eqb v.kind 2)
 
-  cut : whole ≡ first_of (shape_rows count v cells room ++ (known_rows lives fresh is_first ++ rest))
+  cut : first_of (shape_rows count v cells room ++ (known_rows lives fresh is_first ++ rest)) ≡ whole
   unfolding rows view_of member_at fragment_at
   cut =
       let n : ℕ = v.number in
@@ -82,38 +85,38 @@ module _ (σ : Scheme) (count largest u w : ℕ) (live runs undo : List ℕ) (v 
       let number = front_number live runs undo u n in
       let at = front_which live runs undo u n in
       let many : length (uncommitted_of live 0 runs 0 undo 0 u) + length (waiting_of live (live_width * u) w) ≡ u + w = omega (arith, length_uncommitted live runs undo 0 0 0 u, length_waiting live (live_width * u) w) in
-      λ i. first_of
+      let p : first_of (behind_first (rows (view_of count largest u w live runs undo) (call_of σ v cells room))) ≡ first_of (shape_rows count v cells room ++ (known_rows lives fresh is_first ++ rest)) = λ i. first_of
       (shape_rows count v cells room
       ++ (known_rows (is_in n (ns i)) fresh (number i)
       ++ last_rows (eqb v.kind 1) (eqb v.kind 2) fresh (at (λ x. finished x.state) i) (at (λ x. not (multi v.fragment) || not (eqb x.first.coordinator v.fragment.coordinator)) i) (leb most_live (many i))
-      (at (λ x. leb most_fragments x.ran) i) (at (λ x. not (finished x.state)) i) (at (λ x. failed x.state) i)))
+      (at (λ x. leb most_fragments x.ran) i) (at (λ x. not (finished x.state)) i) (at (λ x. failed x.state) i))) in
+      sym p ∙ refused_sound (view_of count largest u w live runs undo) (call_of σ v cells room) is_sound
 
-  module _ (s : ℕ) (es : s ≡ first_of (shape_rows count v cells room)) where
-    pub by_shape : (s ≡ 0 → ⊥) → s ≡ whole
-    by_shape h = es ∙ sym (first_hit (shape_rows count v cells room) (known_rows lives fresh is_first ++ rest) (λ e. h (es ∙ e))) ∙ sym cut
+  pub by_shape : (e : Refusal) → number_of e ≡ first_of (shape_rows count v cells room) → number_of e ≡ whole
+  by_shape e es = es ∙ sym (first_hit (shape_rows count v cells room) (known_rows lives fresh is_first ++ rest) (λ z. number_not_0 e (es ∙ z))) ∙ cut
 
-    module _ (zs : s ≡ 0) (k : ℕ) (ek : k ≡ first_of (known_rows lives fresh is_first)) where
-      behind : first_of (known_rows lives fresh is_first ++ rest) ≡ whole
-      behind =
-          sym (first_miss (shape_rows count v cells room) (known_rows lives fresh is_first ++ rest) (omega arith) (sym es ∙ zs))
-          ∙ sym cut
+  module _ (shaped : 0 ≡ first_of (shape_rows count v cells room)) where
+    behind : first_of (known_rows lives fresh is_first ++ rest) ≡ whole
+    behind =
+        sym (first_miss (shape_rows count v cells room) (known_rows lives fresh is_first ++ rest) (omega arith) (sym shaped))
+        ∙ cut
 
-      pub by_known : (k ≡ 0 → ⊥) → k ≡ whole
-      by_known h = ek ∙ sym (first_hit (known_rows lives fresh is_first) rest (λ e. h (ek ∙ e))) ∙ behind
+    pub by_known : (e : Refusal) → number_of e ≡ first_of (known_rows lives fresh is_first) → number_of e ≡ whole
+    by_known e ek = ek ∙ sym (first_hit (known_rows lives fresh is_first) rest (λ z. number_not_0 e (ek ∙ z))) ∙ behind
 
-      module _ (zk : k ≡ 0) where
-        beyond : first_of rest ≡ whole
-        beyond = sym (first_miss (known_rows lives fresh is_first) rest (omega arith) (sym ek ∙ zk)) ∙ behind
+    module _ (is_known : 0 ≡ first_of (known_rows lives fresh is_first)) where
+      beyond : first_of rest ≡ whole
+      beyond = sym (first_miss (known_rows lives fresh is_first) rest (omega arith) (sym is_known)) ∙ behind
 
-        pub by_fragment : v.kind ≡ 1 → first_of (fragment_rows (u + w) fresh is_first live runs v.fragment) ≡ whole
-        unfolding member_at
-        by_fragment e =
-            let two : eqb v.kind 2 ≡ false = ap (λ (x : ℕ). eqb x 2) e in
-            let p : first_of rest ≡ first_of (fragment_rows (u + w) fresh is_first live runs v.fragment) = λ i. first_of (of_kind (eq-eqb v.kind 1 e i) (two i)) in
-            sym p ∙ beyond
+      pub by_fragment : v.kind ≡ 1 → first_of (fragment_rows (u + w) fresh is_first live runs v.fragment) ≡ whole
+      unfolding member_at
+      by_fragment e =
+          let two : eqb v.kind 2 ≡ false = ap (λ (x : ℕ). eqb x 2) e in
+          let p : first_of rest ≡ first_of (fragment_rows (u + w) fresh is_first live runs v.fragment) = λ i. first_of (of_kind (eq-eqb v.kind 1 e i) (two i)) in
+          sym p ∙ beyond
 
-        pub by_decision : (v.kind ≡ 1 → ⊥) → first_of (decision_rows (eqb v.kind 2) fresh is_first runs) ≡ whole
-        unfolding member_at
-        by_decision e =
-            let p : first_of rest ≡ first_of (decision_rows (eqb v.kind 2) fresh is_first runs) = λ i. first_of (of_kind (ne_eqb v.kind 1 e i) (eqb v.kind 2)) in
-            sym p ∙ beyond
+      pub by_decision : (v.kind ≡ 1 → ⊥) → first_of (decision_rows (eqb v.kind 2) fresh is_first runs) ≡ whole
+      unfolding member_at
+      by_decision e =
+          let p : first_of rest ≡ first_of (decision_rows (eqb v.kind 2) fresh is_first runs) = λ i. first_of (of_kind (ne_eqb v.kind 1 e i) (eqb v.kind 2)) in
+          sym p ∙ beyond

@@ -16,7 +16,9 @@ use Rattle.model.specs.Steps as Steps
 use Rattle.record.specs.Words.{all_rows, row_of, live_rows, over}
 use Rattle.record.specs.View.{waiting_of}
 use Rattle.record.proofs.Back.{waiting_back}
+use Rattle.std.specs.Prelude.{Option}
 use Rattle.rows.specs.declared.Trial.{Trial}
+use Rattle.rows.specs.declared.Reply.TheVariants as Reply
 use Rattle.rows.specs.Rows.{one_rows, near_rows, answered_now, joins_queue}
 use Rattle.rows.proofs.Reading.{same_one, trial_of, near_one, one_rows_lem, near_rows_lem}
 use Rattle.model.specs.Parts.{All}
@@ -55,6 +57,16 @@ placed_by (u ∷ us) w r ans joins ea ej =
     ]) (record { uncommitted = pick j (u ∷ us ++ (begun w r (pick (not a) (Held r.outcome) Sent) ∷ [])) (u ∷ us); answers = pick a (answer w.number (nearest 0 (u ∷ us)) w.attempt (nearest_attempt 0 (u ∷ us)) r.outcome ∷ []) []; settles = pick j [] (w.number ∷ []) })
     go true a j ea ej = λ i. record { uncommitted = pick (sym ej i) (u ∷ us ++ (begun w r (pick (not (sym ea i)) (Held r.outcome) Sent) ∷ [])) (u ∷ us); answers = pick (sym ea i) (answer w.number (nearest 0 (u ∷ us)) w.attempt (nearest_attempt 0 (u ∷ us)) r.outcome ∷ []) []; settles = pick (sym ej i) [] (w.number ∷ []) }
     go false a j ea ej = λ i. record { uncommitted = pick (sym ej i) (u ∷ us ++ (begun w r (pick (not (sym ea i)) (Held r.outcome) Sent) ∷ [])) (u ∷ us); answers = pick (sym ea i) (answer w.number (nearest 0 (u ∷ us)) w.attempt (nearest_attempt 0 (u ∷ us)) r.outcome ∷ []) []; settles = pick (sym ej i) [] (w.number ∷ []) }
+
+-- what a reply that was decided so is
+
+pub sent_is : (h : Bool) (d e : Option Trial) → Reply.Sent e ≡ pick h (Reply.Sent d) Reply.Held → (h ≡ true) × (e ≡ d)
+sent_is true d e p = (refl, cc)
+sent_is false d e p = cc
+
+pub held_is : (h : Bool) (d : Option Trial) → Reply.Held ≡ pick h (Reply.Sent d) Reply.Held → h ≡ false
+held_is true d p = cc
+held_is false d p = refl
 
 -- The rows of the uncommitted ones
 

@@ -5,28 +5,22 @@ use Rattle.rows.proofs.is_multi_row.Kinds as is-multi-row-kinds
 use Rattle.rows.proofs.is_multi_row.Reads as is-multi-row
 use Rattle.rows.proofs.may_take.Kinds as may-take-kinds
 use Rattle.rows.proofs.may_take.Reads as may-take
-use Rattle.rows.proofs.least.Kinds as least-kinds
-use Rattle.rows.proofs.least.Reads as least
 use Rattle.rows.proofs.same_coordinator.Kinds as same-coordinator-kinds
 use Rattle.rows.proofs.same_coordinator.Reads as same-coordinator
 use Rattle.rows.proofs.nearer.Kinds as nearer-kinds
 use Rattle.rows.proofs.nearer.Reads as nearer
 use Rattle.rows.proofs.trial_at.Kinds as trial-at-kinds
 use Rattle.rows.proofs.trial_at.Reads as trial-at
-use Rattle.rows.proofs.no_trial.Kinds as no-trial-kinds
-use Rattle.rows.proofs.no_trial.Reads as no-trial
 use Rattle.rows.proofs.raise_attempts.Kinds as raise-attempts-kinds
 use Rattle.rows.proofs.raise_attempts.Reads as raise-attempts
 use Rattle.rows.proofs.place_ran.Kinds as place-ran-kinds
 use Rattle.rows.proofs.place_ran.Reads as place-ran
 use Rattle.rows.proofs.run_alone.Kinds as run-alone-kinds
 use Rattle.rows.proofs.run_alone.Reads as run_alone
-use Rattle.rows.proofs.put_told.Kinds as put-told-kinds
-use Rattle.rows.proofs.put_told.Reads as put-told
+use Rattle.rows.proofs.told.Kinds as told-kinds
+use Rattle.rows.proofs.told.Reads as told
 use Rattle.rows.proofs.put_answer.Kinds as put-answer-kinds
 use Rattle.rows.proofs.put_answer.Reads as put-answer
-use Rattle.rows.proofs.put_answer_if.Kinds as put-answer-if-kinds
-use Rattle.rows.proofs.put_answer_if.Reads as put-answer-if
 use Rattle.rows.proofs.put_held.Kinds as put-held-kinds
 use Rattle.rows.proofs.put_held.Reads as put-held
 use Rattle.rows.proofs.mark_sent.Kinds as mark-sent-kinds
@@ -44,9 +38,6 @@ is_multi_row_unique κs a z z' ws ws' p q = (cc, refl)
 pub may_take_unique : Unique may-take-kinds.ps may-take-kinds.r may-take.Learnt
 may_take_unique κs a z z' ws ws' p q = (cc, refl)
 
-pub least_unique : Unique least-kinds.ps least-kinds.r least.Learnt
-least_unique κs a z z' ws ws' p q = (cc, refl)
-
 pub same_coordinator_unique : Unique same-coordinator-kinds.ps same-coordinator-kinds.r same-coordinator.Learnt
 same_coordinator_unique κs a z z' ws ws' p q = (cc, refl)
 
@@ -56,9 +47,6 @@ nearer_unique κs a z z' ws ws' p q = (cc, refl)
 pub trial_at_unique : Unique trial-at-kinds.ps trial-at-kinds.r trial-at.Learnt
 trial_at_unique κs a z z' ws ws' p q = (cc, refl)
 
-pub no_trial_unique : Unique no-trial-kinds.ps no-trial-kinds.r no-trial.Learnt
-no_trial_unique κs a z z' ws ws' p q = (cc, refl)
-
 pub raise_attempts_unique : Unique raise-attempts-kinds.ps raise-attempts-kinds.r raise-attempts.Learnt
 raise_attempts_unique κs a z z' ws ws' p q =
     let b : ws.0 ≡ ws'.0 = cc in
@@ -67,20 +55,13 @@ raise_attempts_unique κs a z z' ws ws' p q =
 pub place_ran_unique : Unique place-ran-kinds.ps place-ran-kinds.r place-ran.Learnt
 place_ran_unique κs a z z' ws ws' p q = (cc, refl)
 
-pub put_told_unique : Unique put-told-kinds.ps put-told-kinds.r put-told.Learnt
-put_told_unique κs a z z' ws ws' p q =
-    let b : ws.0 ≡ ws'.0 = cc in
-    (refl, λ j. (b j, ws.1))
+pub told_unique : Unique told-kinds.ps told-kinds.r told.Learnt
+told_unique κs a z z' ws ws' p q = (cc, refl)
 
 pub put_answer_unique : Unique put-answer-kinds.ps put-answer-kinds.r put-answer.Learnt
 put_answer_unique κs a z z' ws ws' p q =
     let b : ws.0 ≡ ws'.0 = cc in
     (refl, λ j. (b j, ws.1))
-
-pub put_answer_if_unique : Unique put-answer-if-kinds.ps put-answer-if-kinds.r put-answer-if.Learnt
-put_answer_if_unique κs a z z' ws ws' p q =
-    let b : ws.1.0 ≡ ws'.1.0 = cc in
-    (refl, λ j. (ws.0, (b j, ws.1.1)))
 
 pub put_held_unique : Unique put-held-kinds.ps put-held-kinds.r put-held.Learnt
 put_held_unique κs a z z' ws ws' p q =

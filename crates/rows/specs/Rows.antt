@@ -1,5 +1,6 @@
 -- What is read off one row and what is laid in one: the words of an answer and of a run, and of the rows of live transactions.
 use Rattle.std.specs.Prelude.{ℕ, ◌+◌, ◌*◌, ◌-◌, ◌%◌, min, Bool, true, false, not, ◌&&◌, ◌||◌, leb, eqb, get_or, replicate, set}
+use Rattle.std.specs.Prelude.{Option, Some, None, is_some, unwrap_or}
 use mathlib.Core.List.{List, [], ◌∷◌, ◌++◌, foldl}
 use Rattle.std.proofs.lemmas.List.Edits.{sets}
 use Rattle.model.specs.Limits.{answer_words}
@@ -11,6 +12,10 @@ use Rattle.operations.specs.declared.Ran.{Ran}
 use Rattle.operations.specs.declared.Told.{Told}
 use Rattle.model.specs.declared.Fragment.{Fragment}
 use Rattle.rows.specs.declared.Trial.{Trial}
+use Rattle.record.specs.declared.State.{State}
+use Rattle.record.specs.declared.State.TheVariants.{Running, Finished, Failed}
+use Rattle.rows.specs.declared.Run.{Run}
+use Rattle.rows.specs.declared.Reply.TheVariants.{Held, Sent}
 use Rattle.rows.specs.declared.Placement.{Placement}
 use Rattle.record.specs.Walk.{places}
 use Rattle.record.specs.Ends.{capped}
@@ -24,6 +29,10 @@ trial_at l b = record { number = get_or l b 0; attempt = attempt_at l b }
 abbrev pub no_trial : Trial
 no_trial = record { number = 0; attempt = 0 }
 
+-- the same by an option
+abbrev pub trial_or_none : Option Trial → Trial
+trial_or_none d = unwrap_or d no_trial
+
 -- the words of an answer of t with a dependence on d, and of a run, with the eight numbers as a row
 abbrev pub answer_row : Trial → Trial → ℕ → ℕ → List ℕ → List ℕ
 answer_row t d p c ns = t.number ∷ d.number ∷ p ∷ c ∷ ns ++ (t.attempt ∷ d.attempt ∷ 0 ∷ 0 ∷ [])
@@ -32,13 +41,31 @@ answer_row t d p c ns = t.number ∷ d.number ∷ p ∷ c ∷ ns ++ (t.attempt �
 abbrev pub told_row : Trial → Trial → Told → List ℕ
 told_row t d r = answer_row t d r.place r.count r.numbers
 
+-- what the answer to a run tells
+abbrev pub told_by : Ran → Told
+told_by r = record { place = r.place; count = r.count; numbers = r.numbers }
+
 abbrev pub first_trial : List ℕ → ℕ → Trial
 first_trial l b = record { number = get_or l b 0; attempt = 1 }
 
 abbrev pub run_row : ℕ → ℕ → ℕ → ℕ → ℕ → ℕ → List ℕ → List ℕ
 run_row r s a e p c ns = r ∷ s ∷ a ∷ e ∷ p ∷ c ∷ ns ++ (0 ∷ 0 ∷ [])
 
--- the word of the state after a fragment
+-- the same of a run: what it holds of its answer, zeros where that was sent
+abbrev pub no_told : Told
+no_told = record { place = 0; count = 0; numbers = replicate 8 0 }
+
+abbrev pub run_by : Run → List ℕ
+run_by r =
+    let t = unwrap_or r.held no_told in
+    run_row r.ran r.state (pick (is_some r.held) 1 0) r.entries t.place t.count t.numbers
+
+-- the word of a state, and that of the state after a fragment
+abbrev pub state_number : State → ℕ
+state_number Running = 0
+state_number Finished = 1
+state_number Failed = 2
+
 abbrev pub state_word_after : Bool → ℕ → ℕ
 state_word_after last place = pick (eqb place 0) (pick last 1 0) 2
 
@@ -57,6 +84,10 @@ same_row l b k = pick (multi_row l b) (eqb (get_or l (b + 2) 0) k) true
 
 abbrev pub near_row : List ℕ → ℕ → Trial → Trial
 near_row l b d = pick (multi_row l b) (trial_at l b) d
+
+-- the same by options
+abbrev pub nearer_row : List ℕ → ℕ → Option Trial → Option Trial
+nearer_row l b d = pick (multi_row l b) (Some (trial_at l b)) d
 
 -- what the drain decides of one that ran: is it answered now, does it join the uncommitted ones
 abbrev pub answered_now : ℕ → Bool → Bool → Bool
@@ -81,6 +112,10 @@ holds_row runs b = eqb (get_or runs (b + 2) 0) 1
 abbrev pub held_row : List ℕ → ℕ → Trial → Trial → List ℕ
 held_row runs b t d = t.number ∷ d.number ∷ numbers_from runs (b + 4) 10 ++ (t.attempt ∷ d.attempt ∷ 0 ∷ 0 ∷ [])
 
+-- what that answer tells
+abbrev pub held_told : List ℕ → ℕ → Told
+held_told runs b = record { place = get_or runs (b + 4) 0; count = get_or runs (b + 5) 0; numbers = numbers_from runs (b + 6) 8 }
+
 -- the words of the run at place b with its answer sent
 abbrev pub sent_row : List ℕ → ℕ → List ℕ
 sent_row runs b = run_row (get_or runs b 0) (get_or runs (b + 1) 0) 0 (get_or runs (b + 3) 0) 0 0 (replicate 8 0)
@@ -92,6 +127,9 @@ one_rows l b n k = every (λ (p : ℕ). same_row l p k) (places b live_width n)
 unfoldable pub near_rows : Trial → List ℕ → ℕ → ℕ → Trial
 near_rows d l b n = foldl (λ (x : Trial) (p : ℕ). near_row l p x) d (places b live_width n)
 
+unfoldable pub nearest_rows : Option Trial → List ℕ → ℕ → ℕ → Option Trial
+nearest_rows d l b n = foldl (λ (x : Option Trial) (p : ℕ). nearer_row l p x) d (places b live_width n)
+
 -- one attempt more in the row at place b, at most TOP; and in n rows from b on
 abbrev pub raised_row : List ℕ → ℕ → List ℕ
 raised_row l b = set l (b + 28) (capped (attempt_at l b + 1))
@@ -102,8 +140,7 @@ raised_rows l b n = foldl raised_row l (places b live_width n)
 -- where the drain places fragment f behind n uncommitted ones, whose rows start at b: what is held names no dependence yet
 abbrev pub placement_row : List ℕ → ℕ → ℕ → Fragment → Placement
 placement_row l b n f =
-    let sent = answered_now n (multi f) (one_rows l b n f.coordinator) in
-    record { sent = sent; joins = joins_queue n (multi f); near = pick sent (near_rows no_trial l b n) no_trial }
+    record { reply = pick (answered_now n (multi f) (one_rows l b n f.coordinator)) (Sent (nearest_rows None l b n)) Held; joins = joins_queue n (multi f) }
 
 -- the front's run after one more fragment
 abbrev pub again_row : List ℕ → Fragment → ℕ → ℕ → List ℕ

@@ -1,81 +1,81 @@
 // The words of an answer and of a run, and what the steps read off rows. Each public function answers for every input.
 #![tactic(auto)]
 
-ghost use Rattle.std.specs.Prelude.{◌≡◌, ◌*◌, ◌≤◌, min, []};
+ghost use Rattle.std.specs.Prelude.{◌≡◌, ◌+◌, ◌*◌, min, [], get_or};
 ghost use Rattle.record.specs.Widths.{run_width};
 ghost use Rattle.model.specs.Steps.{run};
 ghost use Rattle.operations.specs.Laid.{told};
 ghost use Rattle.record.specs.View.{fragment_at, numbers_from};
-ghost use Rattle.rows.specs.Rows.{placement_row, raised_row, raised_rows, trial_at, first_trial, no_trial, answer_row, told_row, run_row, state_word_after, begun_row, same_row, near_row, one_rows, near_rows, answered_now, joins_queue, blocking, may_take_row, holds_row, held_row, sent_row, again_row, multi_row};
+ghost use Rattle.rows.specs.Rows.{placement_row, raised_row, raised_rows, trial_at, first_trial, no_trial, trial_or_none, told_row, told_by, run_by, state_number, state_word_after, begun_row, same_row, one_rows, nearer_row, nearest_rows, answered_now, may_take_row, holds_row, held_row, held_told, sent_row, again_row, multi_row};
 ghost use Rattle.std.proofs.lemmas.List.Edits.{sets};
 ghost use Rattle.model.specs.Operations.{multi, pick};
 
 use model::{Fragment, Scheme};
 use operations::{Ran, Told};
+use record::State;
 
 // The words of an answer, as a number of a place in the room.
-pub const ANSWER_WIDTH: u32 = 16;
+pub const ANSWER_WIDTH: u32 = model::ANSWER_WORDS as u32;
 
-// A transaction in one of its attempts: an answer names its own and the one that it depends on so (02, L2). Of none both numbers are 0.
+// A transaction in one of its attempts: an answer names its own and the one that it depends on so (02, L2).
 #[derive(Clone, Copy)]
 pub struct Trial {
     pub number: u32,
     pub attempt: u32,
 }
 
-// No transaction.
-pub fn no_trial() -> Trial
-    ensures { result ≡ no_trial }
+// Word k of the row that starts at a place.
+pub(crate) fn word_at(row: &[u32], at: usize, k: usize) -> u32
+    ensures { result ≡ get_or row.now (at + k) 0 }
 {
-    Trial {
-        number: 0,
-        attempt: 0,
-    }
+    operations::number_at(row, at.saturating_add(k))
 }
 
 // The transaction whose row of the live row starts at a place, in its attempt.
-pub(crate) fn trial_in(live: &[u32], at: usize) -> Trial
-    requires { at ≤ 137438953472 }
+pub fn trial_at(live: &[u32], at: usize) -> Trial
     ensures { result ≡ trial_at live.now at }
 {
-    let number = operations::number_at(live, at);
-    let attempt = operations::number_at(live, at + record::OPS_END);
     Trial {
-        number: number,
-        attempt: attempt,
+        number: operations::number_at(live, at),
+        attempt: word_at(live, at, record::OPS_END),
     }
 }
 
-// The same at a number of a place.
-pub fn trial_at(live: &[u32], at: u32) -> Trial
-    ensures { result ≡ trial_at live.now at }
+// What the answer to a fragment's run tells: its entries are left out.
+pub fn told(r: Ran) -> Told
+    ensures { result ≡ told_by r }
 {
-    trial_in(live, at as usize)
+    // an array goes from field to field by a variable: straight, the check gives no proof yet
+    let numbers = r.numbers;
+    Told {
+        place: r.place,
+        count: r.count,
+        numbers,
+    }
 }
 
-// The words of an answer of `own` with a dependence on `near`.
-pub(crate) fn answer_row(
-    own: Trial,
-    near: Trial,
-    place: u32,
-    count: u32,
-    numbers: [u32; 8],
-) -> [u32; model::ANSWER_WORDS]
-    ensures { result ≡ answer_row own near place count numbers }
+// The words of an answer of `own` with a dependence on `near`: of none both numbers are 0.
+pub(crate) fn answer_row(own: Trial, near: Option<Trial>, t: Told) -> [u32; model::ANSWER_WORDS]
+    ensures { result ≡ told_row own (trial_or_none near) t }
 {
+    let near = near.unwrap_or(Trial {
+        number: 0,
+        attempt: 0,
+    });
+    let n = t.numbers;
     [
         own.number,
         near.number,
-        place,
-        count,
-        numbers[0],
-        numbers[1],
-        numbers[2],
-        numbers[3],
-        numbers[4],
-        numbers[5],
-        numbers[6],
-        numbers[7],
+        t.place,
+        t.count,
+        n[0],
+        n[1],
+        n[2],
+        n[3],
+        n[4],
+        n[5],
+        n[6],
+        n[7],
         own.attempt,
         near.attempt,
         0,
@@ -83,138 +83,118 @@ pub(crate) fn answer_row(
     ]
 }
 
-// The words of a run.
-pub(crate) fn run_row(
-    ran: u32,
-    state: u32,
-    reply: u32,
-    entries: u32,
-    place: u32,
-    count: u32,
-    numbers: [u32; 8],
-) -> [u32; record::RUN_WORDS]
-    ensures { result ≡ run_row ran state reply entries place count numbers }
+// The state after a fragment: "finished locally when its last fragment has run or when it has failed".
+pub(crate) fn state_after(last: bool, place: u32) -> State
+    ensures { state_number result ≡ state_word_after last place }
 {
-    [
-        ran, state, reply, entries, place, count, numbers[0], numbers[1], numbers[2], numbers[3],
-        numbers[4], numbers[5], numbers[6], numbers[7], 0, 0,
-    ]
-}
-
-// The word of the state after a fragment: "finished locally when its last fragment has run or when it has failed".
-pub(crate) fn state_after(last: bool, place: u32) -> u32
-    ensures { result ≡ state_word_after last place }
-{
-    if place == 0 {
-        if last { 1 } else { 0 }
+    if place != 0 {
+        State::Failed
+    } else if last {
+        State::Finished
     } else {
-        2
+        State::Running
     }
 }
 
-// The run of one that ran its first fragment.
-pub(crate) fn begun_row(held: bool, last: bool, r: Ran) -> [u32; record::RUN_WORDS]
-    ensures { result ≡ begun_row held last r }
-{
-    let state = state_after(last, r.place);
-    if held {
-        let numbers = r.numbers;
-        run_row(1, state, 1, r.entries, r.place, r.count, numbers)
-    } else {
-        run_row(1, state, 0, r.entries, 0, 0, [0u32; 8])
+// A run: how many fragments ran, the word of the state, how many entries it owns, and the answer that it holds, none where that was sent.
+#[derive(Clone, Copy)]
+pub(crate) struct Run {
+    pub ran: u32,
+    pub state: u32,
+    pub entries: u32,
+    pub held: Option<Told>,
+}
+
+impl Run {
+    // Its words: 1 where it holds its answer, and 0 with no answer's words where that was sent.
+    pub(crate) fn words(self) -> [u32; record::RUN_WORDS]
+        ensures { result ≡ run_by self }
+    {
+        let reply = self.held.is_some() as u32;
+        let t = self.held.unwrap_or(Told {
+            place: 0,
+            count: 0,
+            numbers: [0; 8],
+        });
+        let n = t.numbers;
+        [
+            self.ran,
+            self.state,
+            reply,
+            self.entries,
+            t.place,
+            t.count,
+            n[0],
+            n[1],
+            n[2],
+            n[3],
+            n[4],
+            n[5],
+            n[6],
+            n[7],
+            0,
+            0,
+        ]
+    }
+
+    // Lays them into the row of runs, from a place on.
+    pub(crate) fn put(self, runs: &mut [u32], at: u32)
+        ensures { runs.new ≡ sets runs.old at (run_by self) }
+    {
+        record::lay(runs, at, &self.words(), record::RUN_WIDTH);
     }
 }
 
 // A row of the live row that is a multi's.
-pub(crate) fn multi_at(live: &[u32], at: usize) -> bool
-    requires { at ≤ 137438953472 }
+pub fn is_multi_row(live: &[u32], at: usize) -> bool
     ensures { result ≡ multi_row live.now at }
 {
-    let flags = operations::number_at(live, at + 1);
-    flags % 2 == 1
-}
-
-// The same at a number of a place.
-pub fn is_multi_row(live: &[u32], at: u32) -> bool
-    ensures { result ≡ multi_row live.now at }
-{
-    multi_at(live, at as usize)
+    word_at(live, at, 1) % 2 == 1
 }
 
 // A row of the live row that is a single's, or has coordinator k.
-pub(crate) fn same_at(live: &[u32], at: usize, k: u32) -> bool
-    requires { at ≤ 137438953472 }
+pub fn same_coordinator(live: &[u32], at: usize, k: u32) -> bool
     ensures { result ≡ same_row live.now at k }
 {
-    if multi_at(live, at) {
-        let other = operations::number_at(live, at + 2);
-        other == k
-    } else {
-        true
-    }
-}
-
-// The same at a number of a place.
-pub fn same_coordinator(live: &[u32], at: u32, k: u32) -> bool
-    ensures { result ≡ same_row live.now at k }
-{
-    same_at(live, at as usize, k)
+    !is_multi_row(live, at) || word_at(live, at, 2) == k
 }
 
 // "all uncommitted multis .. have one coordinator (singles do not count)": k, over n rows of the live row from place b on.
 pub(crate) fn one_coordinator(live: &[u32], b: u32, n: u32, k: u32) -> bool
     ensures { result ≡ one_rows live.now b n k }
 {
-    let mut i: u32 = 0;
-    while i < n {
-        if !same_at(live, b as usize + record::LIVE_WORDS * i as usize, k) {
-            return false;
-        }
-        i = i + 1;
-    }
-    true
+    (0..n).all(|i| same_coordinator(live, b as usize + record::LIVE_WORDS * i as usize, k))
 }
 
 // The transaction of a row that is a multi's, d for a single's.
-pub(crate) fn nearer_at(live: &[u32], at: usize, d: Trial) -> Trial
-    requires { at ≤ 137438953472 }
-    ensures { result ≡ near_row live.now at d }
+pub fn nearer(live: &[u32], at: usize, d: Option<Trial>) -> Option<Trial>
+    ensures { result ≡ nearer_row live.now at d }
 {
-    if multi_at(live, at) {
-        trial_in(live, at)
+    if is_multi_row(live, at) {
+        Some(trial_at(live, at))
     } else {
         d
     }
 }
 
-// The same at a number of a place.
-pub fn nearer(live: &[u32], at: u32, d: Trial) -> Trial
-    ensures { result ≡ near_row live.now at d }
-{
-    nearer_at(live, at as usize, d)
-}
-
 // "the nearest multi ahead of it": the last multi of n rows, none where there is none.
-pub(crate) fn nearest_multi(live: &[u32], b: u32, n: u32) -> Trial
-    ensures { result ≡ near_rows no_trial live.now b n }
+pub(crate) fn nearest_multi(live: &[u32], b: u32, n: u32) -> Option<Trial>
+    ensures { result ≡ nearest_rows None live.now b n }
 {
-    let mut d = no_trial();
-    let mut i: u32 = 0;
-    while i < n {
-        d = nearer_at(live, b as usize + record::LIVE_WORDS * i as usize, d);
-        i = i + 1;
+    let mut near = None;
+    for i in 0..n {
+        near = nearer(live, b as usize + record::LIVE_WORDS * i as usize, near);
     }
-    d
+    near
 }
 
 // One attempt more of a row of the live row; a row that is not all there stays.
 pub(crate) fn raise_at(live: &mut [u32], at: usize)
-    requires { at ≤ 137438953472 }
     ensures { live.new ≡ raised_row live.old at }
 {
-    let place = at + record::OPS_END;
+    let place = at.saturating_add(record::OPS_END);
     if place < live.len() {
-        live[place] = least(live[place], model::TOP - 1) + 1;
+        live[place] = live[place].saturating_add(1);
     }
 }
 
@@ -222,10 +202,8 @@ pub(crate) fn raise_at(live: &mut [u32], at: usize)
 pub fn raise_attempts(live: &mut [u32], b: u32, n: u32)
     ensures { live.new ≡ raised_rows live.old b n }
 {
-    let mut i: u32 = 0;
-    while i < n {
+    for i in 0..n {
         raise_at(live, b as usize + record::LIVE_WORDS * i as usize);
-        i = i + 1;
     }
 }
 
@@ -234,59 +212,35 @@ pub fn raise_attempts(live: &mut [u32], b: u32, n: u32)
 pub(crate) fn is_answered(live: &[u32], b: u32, n: u32, f: Fragment) -> bool
     ensures { result ≡ answered_now n (multi f) (one_rows live.now b n f.coordinator) }
 {
-    if n == 0 {
-        return true;
-    }
-    if operations::is_multi(f) {
-        return one_coordinator(live, b, n, f.coordinator);
-    }
-    false
+    n == 0 || (operations::is_multi(f) && one_coordinator(live, b, n, f.coordinator))
 }
 
-// Does it join the uncommitted ones: all but a single with nothing uncommitted.
-pub(crate) fn is_joining(uncommitted: u32, multi: bool) -> bool
-    ensures { result ≡ joins_queue uncommitted multi }
-{
-    if uncommitted == 0 { multi } else { true }
+// What the drain does with the answer of one that ran: it is held, or sent now with the multi that it depends on.
+#[derive(Clone, Copy)]
+pub enum Reply {
+    Held,
+    Sent(Option<Trial>),
 }
 
-// Where the drain places one that ran: is it answered now, does it join the uncommitted ones, and the multi that its answer depends on, none where it is
-// held.
+// Where the drain places one that ran: what it does with its answer, and does it join the uncommitted ones.
 #[derive(Clone, Copy)]
 pub struct Placement {
-    pub sent: bool,
+    pub reply: Reply,
     pub joins: bool,
-    pub near: Trial,
 }
 
-// The same for fragment f, behind n uncommitted ones whose rows start at place b.
+// The same for fragment f, behind n uncommitted ones whose rows start at place b: all but a single with nothing uncommitted join.
 pub fn place_ran(live: &[u32], b: u32, n: u32, f: Fragment) -> Placement
     ensures { result ≡ placement_row live.now b n f }
 {
-    let multi = operations::is_multi(f);
-    let joins = is_joining(n, multi);
-    if !is_answered(live, b, n, f) {
-        return Placement {
-            sent: false,
-            joins: joins,
-            near: no_trial(),
-        };
-    }
-    let near = nearest_multi(live, b, n);
+    let reply = if is_answered(live, b, n, f) {
+        Reply::Sent(nearest_multi(live, b, n))
+    } else {
+        Reply::Held
+    };
     Placement {
-        sent: true,
-        joins: joins,
-        near: near,
-    }
-}
-
-// Does nothing run behind an uncommitted one?
-pub(crate) fn blocks(scheme: Scheme) -> bool
-    ensures { result ≡ blocking scheme }
-{
-    match scheme {
-        Scheme::Speculation => false,
-        Scheme::Blocking => true,
+        reply,
+        joins: n != 0 || operations::is_multi(f),
     }
 }
 
@@ -294,55 +248,24 @@ pub(crate) fn blocks(scheme: Scheme) -> bool
 pub fn may_take(scheme: Scheme, runs: &[u32], uncommitted: u32) -> bool
     ensures { result ≡ may_take_row scheme runs.now uncommitted }
 {
-    if blocks(scheme) {
-        return uncommitted == 0;
-    }
     if uncommitted == 0 {
         return true;
     }
-    if model::DEPTH <= uncommitted {
+    if matches!(scheme, Scheme::Blocking) || model::DEPTH <= uncommitted {
         return false;
     }
-    let state = operations::number_at(runs, record::RUN_WORDS * (uncommitted as usize - 1) + 1);
-    if state == 1 {
-        return true;
-    }
-    state == 2
+    let state = operations::number_at(
+        runs,
+        record::RUN_WORDS * (uncommitted as usize - 1) + record::RUN_STATE,
+    );
+    record::is_finished(state)
 }
 
-// The words of the answer of `own` that run number i holds, with a dependence on `near`.
-pub(crate) fn held_row(runs: &[u32], i: u32, own: Trial, near: Trial) -> [u32; model::ANSWER_WORDS]
-    ensures { result ≡ held_row runs.now (run_width * i) own near }
+// Lays an answer into the room, from a place on.
+pub fn put_answer(room: &mut [u32], at: u32, own: Trial, near: Option<Trial>, t: Told)
+    ensures { room.new ≡ sets room.old at (told_row own (trial_or_none near) t) }
 {
-    let b = record::RUN_WORDS * i as usize;
-    let place = operations::number_at(runs, b + 4);
-    let count = operations::number_at(runs, b + 5);
-    let n0 = operations::number_at(runs, b + 6);
-    let n1 = operations::number_at(runs, b + 7);
-    let n2 = operations::number_at(runs, b + 8);
-    let n3 = operations::number_at(runs, b + 9);
-    let n4 = operations::number_at(runs, b + 10);
-    let n5 = operations::number_at(runs, b + 11);
-    let n6 = operations::number_at(runs, b + 12);
-    let n7 = operations::number_at(runs, b + 13);
-    answer_row(own, near, place, count, [n0, n1, n2, n3, n4, n5, n6, n7])
-}
-
-// Lays the answer of what a run tells into the room, from a place on.
-pub fn put_told(room: &mut [u32], at: u32, own: Trial, near: Trial, t: Told)
-    ensures { room.new ≡ sets room.old at (told_row own near t) }
-{
-    let numbers = t.numbers;
-    let w = answer_row(own, near, t.place, t.count, numbers);
-    record::lay(room, at, &w, ANSWER_WIDTH);
-}
-
-// Lays an answer of a run into the room, from a place on.
-pub fn put_answer(room: &mut [u32], at: u32, own: Trial, near: Trial, r: Ran)
-    ensures { room.new ≡ sets room.old at (answer_row own near r.place r.count r.numbers) }
-{
-    let numbers = r.numbers;
-    let w = answer_row(own, near, r.place, r.count, numbers);
+    let w = answer_row(own, near, t);
     record::lay(room, at, &w, ANSWER_WIDTH);
 }
 
@@ -353,56 +276,72 @@ pub fn run_alone(cells: &mut [u32], words: &[u32], b: u32, room: &mut [u32])
     ensures room_after { room.new ≡ sets room.old 0
         (told_row (first_trial words.now b) no_trial (told (run (fragment_at words.now b) cells.old []))) }
 {
-    let number = operations::number_at(words, b as usize);
-    let t = operations::run_words(cells, words, b);
     let own = Trial {
-        number: number,
+        number: operations::number_at(words, b as usize),
         attempt: 1,
     };
-    let none = no_trial();
-    put_told(room, 0, own, none, t);
+    let t = operations::run_words(cells, words, b);
+    put_answer(room, 0, own, None, t);
 }
 
-// The same if it is sent now.
-pub fn put_answer_if(sent: bool, room: &mut [u32], at: u32, own: Trial, near: Trial, r: Ran)
-    ensures { room.new
-        ≡ pick sent (sets room.old at (answer_row own near r.place r.count r.numbers)) room.old }
+// The answer that run number i holds.
+pub(crate) fn held_at(runs: &[u32], i: u32) -> Option<Told>
+    ensures { result ≡ pick (holds_row runs.now (run_width * i)) (Some (held_told runs.now (run_width * i))) None }
 {
-    if sent {
-        put_answer(room, at, own, near, r);
+    let b = record::RUN_WORDS * i as usize;
+    if operations::number_at(runs, b + record::RUN_REPLY) != record::HELD {
+        return None;
     }
+    // no `array::from_fn`: it ensures a chain of calls, from which the proof of the numbers did not close
+    let mut numbers = [0; 8];
+    for k in 0..8 {
+        numbers[k] = operations::number_at(runs, b + record::RUN_NUMBERS + k);
+    }
+    Some(Told {
+        place: operations::number_at(runs, b + record::RUN_PLACE),
+        count: operations::number_at(runs, b + record::RUN_COUNT),
+        numbers,
+    })
 }
 
 // Lays the answer that run number i holds into the room, from a place on, with a dependence; whether it holds one.
-pub fn put_held(room: &mut [u32], at: u32, runs: &[u32], i: u32, own: Trial, near: Trial) -> bool
+pub fn put_held(
+    room: &mut [u32],
+    at: u32,
+    runs: &[u32],
+    i: u32,
+    own: Trial,
+    near: Option<Trial>,
+) -> bool
     ensures value { result ≡ holds_row runs.now (run_width * i) }
     ensures room_after { room.new ≡ pick (holds_row runs.now (run_width * i))
-        (sets room.old at (held_row runs.now (run_width * i) own near)) room.old }
+        (sets room.old at (held_row runs.now (run_width * i) own (trial_or_none near))) room.old }
 {
-    let reply = operations::number_at(runs, record::RUN_WORDS * i as usize + 2);
-    if reply == 1 {
-        let w = held_row(runs, i, own, near);
-        record::lay(room, at, &w, ANSWER_WIDTH);
-        true
-    } else {
-        false
-    }
+    let Some(t) = held_at(runs, i) else {
+        return false;
+    };
+    put_answer(room, at, own, near, t);
+    true
 }
 
 // Lays the run of one that ran its first fragment, from a place on.
 pub fn put_run(runs: &mut [u32], at: u32, held: bool, last: bool, r: Ran)
     ensures { runs.new ≡ sets runs.old at (begun_row held last r) }
 {
-    let w = begun_row(held, last, r);
-    record::lay(runs, at, &w, record::RUN_WIDTH);
+    let begun = Run {
+        ran: 1,
+        state: state_after(last, r.place) as u32,
+        entries: r.entries,
+        held: if held { Some(told(r)) } else { None },
+    };
+    begun.put(runs, at);
 }
 
 // Lays the undo entries of a run, from a place on: it has at most one for each operation.
 pub fn put_entries(undo: &mut [u32], at: u32, r: Ran)
     ensures { undo.new ≡ sets undo.old at (numbers_from r.undo 0 (2 * min r.entries 8)) }
 {
-    let own = r.undo;
-    record::lay(undo, at, &own, record::ENTRY_WIDTH * least(r.entries, 8));
+    record::lay(undo, at, &r.undo, record::ENTRY_WIDTH * r.entries.min(8));
 }
 
 // The run at a place says that its answer was sent.
@@ -410,26 +349,24 @@ pub fn mark_sent(runs: &mut [u32], at: u32)
     ensures { runs.new ≡ sets runs.old at (sent_row runs.old at) }
 {
     let b = at as usize;
-    let ran = operations::number_at(runs, b);
-    let state = operations::number_at(runs, b + 1);
-    let entries = operations::number_at(runs, b + 3);
-    let w = run_row(ran, state, 0, entries, 0, 0, [0u32; 8]);
-    record::lay(runs, at, &w, record::RUN_WIDTH);
+    let sent = Run {
+        ran: operations::number_at(runs, b),
+        state: operations::number_at(runs, b + record::RUN_STATE),
+        entries: operations::number_at(runs, b + record::RUN_ENTRIES),
+        held: None,
+    };
+    sent.put(runs, at);
 }
 
 // The run of the front after one more fragment, answered at once.
 pub fn run_again(runs: &mut [u32], f: Fragment, place: u32, entries: u32)
     ensures { runs.new ≡ sets runs.old 0 (again_row runs.old f place entries) }
 {
-    let ran = operations::number_at(runs, 0);
-    let before = least(ran, 7);
-    let state = state_after(operations::is_last(f), place);
-    let w = run_row(before + 1, state, 0, entries, 0, 0, [0u32; 8]);
-    record::lay(runs, 0, &w, record::RUN_WIDTH);
-}
-
-pub fn least(a: u32, b: u32) -> u32
-    ensures { result ≡ min a b }
-{
-    if a < b { a } else { b }
+    let again = Run {
+        ran: operations::number_at(runs, 0).min(7) + 1,
+        state: state_after(operations::is_last(f), place) as u32,
+        entries,
+        held: None,
+    };
+    again.put(runs, 0);
 }

@@ -15,9 +15,9 @@ use Rattle.model.proofs.Chain.{all_map}
 use Rattle.model.proofs.Tests.{both, and_left, and_right, every_append, every_first, every_rest}
 use Rattle.model.proofs.Sound.{sound_parts, parts_sound}
 use Rattle.record.specs.Words.{live_rows}
-use Rattle.record.specs.View.{fragment_at, attempt_at, waiting_of, member_at, state_of, uncommitted_of, view_of}
+use Rattle.record.specs.View.{fragment_at, attempt_at, waiting_of, member_at, state_of, uncommitted_of, view_of, entries_from}
 use Rattle.record.proofs.Queues.{length_waiting, length_uncommitted, rows_live, entries_all, numbers_rows, attempts_rows, all-rows, rows_all}
-use Rattle.soundness.specs.Groups.{row_ok, live_from, front_ok, next_ok, follows_ok, behind_from, members_ok, total_from, undo_ok, groups}
+use Rattle.soundness.specs.Groups.{row_ok, live_from, front_ok, next_ok, follows_ok, behind_from, members_ok, undo_ok, groups}
 use Rattle.soundness.proofs.Words.{same, finished_words, Run, member_state, next_one, one_next, next_run, next_ran, front_run, front_good, front_one, one_front}
 use Rattle.model.specs.Parts.{All, cell_inside, SoundOne, Stored, bad_front, Ahead, Sound}
 use Rattle.record.specs.Widths.{live_width, run_width}
@@ -181,7 +181,7 @@ module _ (count largest uncommitted waiting : ℕ) (live runs undo : List ℕ) w
   a5 = members_ok live runs uncommitted
 
   abbrev a6 : Bool
-  a6 = undo_ok count undo 0 (total_from runs 0 uncommitted)
+  a6 = undo_ok count undo 0 (entries_from runs 0 uncommitted)
 
   -- both queues are one list of rows
   rows : live_rows us ws ≡ waiting_of live 0 (uncommitted + waiting)
@@ -245,9 +245,9 @@ module _ (count largest uncommitted waiting : ℕ) (live runs undo : List ℕ) w
       (parts_members live runs undo count uncommitted s.each s.ones s.front s.ready))
       (sym (ap (every (cell_inside count)) (entries_all live runs undo 0 0 0 uncommitted)) ∙ inside_each live runs undo count us s.each)
 
-  pub groups_sound : groups count largest uncommitted waiting live runs undo ≡ sound (view_of count largest uncommitted waiting live runs undo)
+  pub sound_groups : sound (view_of count largest uncommitted waiting live runs undo) ≡ groups count largest uncommitted waiting live runs undo
   unfolding view_of
-  groups_sound =
-      same (groups count largest uncommitted waiting live runs undo) (sound (view_of count largest uncommitted waiting live runs undo))
-      (λ h. parts_sound (view_of count largest uncommitted waiting live runs undo) (to_sound h))
+  sound_groups =
+      same (sound (view_of count largest uncommitted waiting live runs undo)) (groups count largest uncommitted waiting live runs undo)
       (λ h. of_sound (sound_parts (view_of count largest uncommitted waiting live runs undo) h))
+      (λ h. parts_sound (view_of count largest uncommitted waiting live runs undo) (to_sound h))

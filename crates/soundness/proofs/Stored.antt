@@ -2,10 +2,11 @@
 use Prim.Native.Nat.{ℕ, zero, suc, ◌+◌, ◌*◌, ◌-◌, ◌≤◌, ◌<◌}
 use native.Mathlib.Omega.{arith}
 use native.Mathlib.Nat.{add_assoc}
+use native.Mathlib.Numerals.{add-one}
 use mathlib.Core.Path.{◌≡◌, refl, sym, ap, ◌∙◌}
 use mathlib.Core.Bool.{Bool, true, false, ◌&&◌, true≢false}
 use mathlib.Core.List.{List, [], ◌∷◌, ◌++◌, map}
-use borrow.Author.Tests.{eq-eqb, ne_eqb, eqb-true, lt-leb}
+use borrow.Author.Tests.{eq-eqb, ne_eqb, eqb-true, lt-leb, leb-true, leb-false}
 use lib.Dec.{leb, ltb, eqb}
 use lib.Bits.{bit_and, bit_or, or_add_and, and_le_l, and_le_r}
 use lib.ListN.{length, get_or, take, drop}
@@ -16,7 +17,8 @@ use Rattle.model.specs.declared.Op.{Op}
 use Rattle.record.specs.View.{op_at, fragment_at, numbers_from}
 use Rattle.record.proofs.Rows.{numbers_snoc}
 use Rattle.record.proofs.Walks.{read_length, read_add, walk_on, walk_end}
-use Rattle.soundness.specs.Groups.{is_zero, ops_from, storable_op, kind_ok}
+use Rattle.soundness.specs.Groups.{is_zero, ops_from, storable_op}
+use Rattle.operations.specs.Words.{formed_kind_of}
 use Rattle.soundness.proofs.Turns.{on, off}
 use Rattle.record.specs.Widths.{op_width, ops_width, ops_end}
 
@@ -95,8 +97,8 @@ shuffle true true true false f k true = refl
 shuffle true true true false f k false = refl
 
 -- all that is asked of a stored fragment, where its words stand
-pub stored_by : (l : List ℕ) (at ct n : ℕ) → get_or l (at + 3) 0 ≡ n → n ≤ 8
-    → storable ct (fragment_at l at) ≡ (leb 1 n && leb n 8 && every (storable_op ct) (ops_from l (at + 4) n) && every is_zero (numbers_from l (at + 4 + op_width * n) (ops_width - op_width * n)) && leb (get_or l (at + 1) 0) 3 && kind_ok (get_or l (at + 1) 0) (get_or l (at + 2) 0))
+stored_by : (l : List ℕ) (at ct n : ℕ) → get_or l (at + 3) 0 ≡ n → n ≤ 8
+    → storable ct (fragment_at l at) ≡ (leb 1 n && leb n 8 && every (storable_op ct) (ops_from l (at + 4) n) && every is_zero (numbers_from l (at + 4 + op_width * n) (ops_width - op_width * n)) && leb (get_or l (at + 1) 0) 3 && formed_kind_of (get_or l (at + 1) 0) (get_or l (at + 2) 0))
 unfolding formed inside operations fragment_at multi last
 stored_by l at ct n e h =
     let m : n + (8 - n) ≡ 8 = omega arith in
@@ -106,22 +108,20 @@ stored_by l at ct n e h =
     let rest : drop (get_or l (at + 3) 0) (fragment_at l at).row ≡ ops_from l (at + 4 + op_width * n) (8 - n) = (λ i. drop (e i) (ops i)) ∙ drop_ops l (at + 4) n (8 - n) in
     let blank : every blank_op (drop (get_or l (at + 3) 0) (fragment_at l at).row) ≡ every is_zero (numbers_from l (at + 4 + op_width * n) (ops_width - op_width * n)) =
     ap (every blank_op) rest ∙ blank_words l (at + 4 + op_width * n) (8 - n) ∙ ap (λ (x : ℕ). every is_zero (numbers_from l (at + 4 + op_width * n) x)) w in
-    let k : Bool = kind_ok (get_or l (at + 1) 0) (get_or l (at + 2) 0) in
+    let k : Bool = formed_kind_of (get_or l (at + 1) 0) (get_or l (at + 2) 0) in
     let f : Bool = leb (get_or l (at + 1) 0) 3 in
     (λ i. (leb 1 (e i) && leb (e i) 8 && every formed_op (used i) && blank i && f && k) && every (λ (o : Op). ltb o.cell ct) (used i))
     ∙ shuffle (leb 1 n) (leb n 8) (every formed_op (ops_from l (at + 4) n)) (every is_zero (numbers_from l (at + 4 + op_width * n) (ops_width - op_width * n))) f k (every (λ (o : Op). ltb o.cell ct) (ops_from l (at + 4) n))
     ∙ ap (λ (x : Bool). leb 1 n && leb n 8 && x && every is_zero (numbers_from l (at + 4 + op_width * n) (ops_width - op_width * n)) && f && k) (both ct (ops_from l (at + 4) n))
 
--- the same from each answer
-pub stored_is : (l : List ℕ) (at ct n : ℕ) → get_or l (at + 3) 0 ≡ n → n ≤ 8 → (p q a z f k : Bool) → leb 1 n ≡ p → leb n 8 ≡ q → every (storable_op ct) (ops_from l (at + 4) n) ≡ a
-    → every is_zero (numbers_from l (at + 4 + op_width * n) (at + 28 - (at + 4 + op_width * n))) ≡ z → leb (get_or l (at + 1) 0) 3 ≡ f → kind_ok (get_or l (at + 1) 0) (get_or l (at + 2) 0) ≡ k
-    → (p && q && a && z && f && k) ≡ storable ct (fragment_at l at)
-stored_is l at ct n e h p q a z f k ep eq ea ez ef ek =
-    let w : ops_width - op_width * n ≡ at + 28 - (at + 4 + op_width * n) = omega arith in
-    sym (stored_by l at ct n e h ∙ (λ i. ep i && eq i && ea i && (ap (λ (x : ℕ). every is_zero (numbers_from l (at + 4 + op_width * n) x)) w ∙ ez) i && ef i && ek i))
+swap : (p q : Bool) → (p && q) ≡ (q && p)
+swap true true = refl
+swap true false = refl
+swap false true = refl
+swap false false = refl
 
 -- "operations not 1 to 8"
-pub stored_many : (l : List ℕ) (at ct : ℕ) → 8 < get_or l (at + 3) 0 → false ≡ storable ct (fragment_at l at)
+stored_many : (l : List ℕ) (at ct : ℕ) → 8 < get_or l (at + 3) 0 → false ≡ storable ct (fragment_at l at)
 unfolding formed fragment_at
 stored_many l at ct h = go (leb 1 (get_or l (at + 3) 0)) _ _ _ _ _ ∙ ap (λ (x : Bool). (leb 1 (get_or l (at + 3) 0) && x && every formed_op (operations (fragment_at l at)) && every blank_op (drop (get_or l (at + 3) 0) (fragment_at l at).row) && leb (get_or l (at + 1) 0) 3 && formed_kind (fragment_at l at)) && inside ct (fragment_at l at)) (sym (lt-leb (get_or l (at + 3) 0) 8 h))
   where
@@ -129,25 +129,50 @@ stored_many l at ct h = go (leb 1 (get_or l (at + 3) 0)) _ _ _ _ _ ∙ ap (λ (x
     go true a z f k i = refl
     go false a z f k i = refl
 
--- one turn of the walk over operations
-module _ (ct : ℕ) (l : List ℕ) (b left : ℕ) (whole : Bool) (inv : every (storable_op ct) (ops_from l b left) ≡ whole) where
+-- the same of any count: of one above 8 both are false
+module _ (ct : ℕ) (l : List ℕ) (at : ℕ) where
+  abbrev count : ℕ
+  count = get_or l (at + 3) 0
+
+  abbrev first : ℕ
+  first = at + 4 + op_width * count
+
+  abbrev kind : Bool
+  kind = formed_kind_of (get_or l (at + 1) 0) (get_or l (at + 2) 0)
+
+  abbrev asked : Bool → Bool
+  asked few = few && leb 1 count && every (storable_op ct) (ops_from l (at + 4) count) && every is_zero (numbers_from l first (at + ops_end - first)) && leb (get_or l (at + 1) 0) 3 && kind
+
+  either_way : (few : Bool) → leb count 8 ≡ few → storable ct (fragment_at l at) ≡ asked (leb count 8)
+  either_way true e =
+      let h : count ≤ 8 = leb-true count 8 e in
+      let w : ops_width - op_width * count ≡ at + ops_end - first = omega arith in
+      stored_by l at ct count refl h
+      ∙ (λ i. swap (leb 1 count) (leb count 8) i && every (storable_op ct) (ops_from l (at + 4) count) && every is_zero (numbers_from l first (w i)) && leb (get_or l (at + 1) 0) 3 && kind)
+  either_way false e = sym (stored_many l at ct (leb-false count 8 e)) ∙ ap asked (sym e)
+
+  pub stored : storable ct (fragment_at l at) ≡ asked (leb count 8)
+  stored = either_way (leb count 8) refl
+
+-- one turn of the walk over operations: i of n have been asked
+module _ (ct : ℕ) (l : List ℕ) (b n i : ℕ) (whole : Bool) (inv : every (storable_op ct) (ops_from l (b + op_width * i) (n - i)) ≡ whole) where
   abbrev ops : List ℕ → Bool
   ops bs = every (storable_op ct) (map (op_at l) bs)
 
-  module _ (more : 0 < left) where
-    used_next : (storable_op ct (op_at l b) && every (storable_op ct) (ops_from l (b + op_width) (left - 1))) ≡ whole
+  module _ (more : i < n) where
+    used_next : (storable_op ct (op_at l (b + op_width * i)) && every (storable_op ct) (ops_from l (b + op_width * (i + 1)) (n - (i + 1)))) ≡ whole
     unfolding ops_from
-    used_next = walk_on (λ (p : ℕ). p + op_width) ops b left whole inv (b + op_width) (left - 1) refl (omega arith)
+    used_next = walk_on (λ (p : ℕ). p + op_width) ops (b + op_width * i) (n - i) whole inv (b + op_width * (i + 1)) (n - (i + 1)) (omega arith) (omega arith)
 
-    pub used_on : storable_op ct (op_at l b) ≡ true → every (storable_op ct) (ops_from l (b + op_width) (left - 1)) ≡ whole
-    used_on t = on (storable_op ct (op_at l b)) _ whole used_next t
+    pub used_on : storable_op ct (op_at l (b + op_width * i)) ≡ true → every (storable_op ct) (ops_from l (b + op_width * (i + 1)) (n - (i + 1))) ≡ whole
+    used_on t = on (storable_op ct (op_at l (b + op_width * i))) _ whole used_next t
 
-    pub used_off : storable_op ct (op_at l b) ≡ false → false ≡ whole
-    used_off t = off (storable_op ct (op_at l b)) _ whole used_next t
+    pub used_off : storable_op ct (op_at l (b + op_width * i)) ≡ false → false ≡ whole
+    used_off t = off (storable_op ct (op_at l (b + op_width * i))) _ whole used_next t
 
-  pub used_end : left ≤ 0 → true ≡ whole
+  pub used_end : n ≤ i → true ≡ whole
   unfolding ops_from
-  used_end h = walk_end (λ (p : ℕ). p + op_width) ops b left whole inv (omega arith)
+  used_end h = walk_end (λ (p : ℕ). p + op_width) ops (b + op_width * i) (n - i) whole inv (omega arith)
 
 -- one turn of the walk over words
 every_snoc : (l : List ℕ) (w : ℕ) → every is_zero (l ++ (w ∷ [])) ≡ (is_zero w && every is_zero l)
@@ -174,9 +199,7 @@ zero_or a w = go (is_zero w) (is_zero a) refl refl
     go true false e f = ne_eqb (bit_or a w) 0 (λ z. clash f (let y : a ≡ 0 = omega (arith, sum, and_le_r a w, eqb-true w 0 e) in y))
     go false q e f = ne_eqb (bit_or a w) 0 (λ z. clash e (let y : w ≡ 0 = omega (arith, sum, and_le_l a w) in y))
 
-pub zeros_turn : (l : List ℕ) (from i most w most' : ℕ) → from ≤ i → w ≡ get_or l i 0 → is_zero most ≡ every is_zero (numbers_from l from (i - from)) → is_zero most' ≡ (is_zero w && is_zero most) → is_zero most' ≡ every is_zero (numbers_from l from (i + 1 - from))
-zeros_turn l from i most w most' h ew inv em =
-    let e : suc (i - from) ≡ i + 1 - from = omega arith in
-    let p : i ≡ from + (i - from) = omega arith in
-    em ∙ (λ j. is_zero ((ew ∙ ap (λ (x : ℕ). get_or l x 0) p) j) && inv j) ∙ sym (every_snoc (numbers_from l from (i - from)) (get_or l (from + (i - from)) 0))
-    ∙ ap (every is_zero) (sym (numbers_snoc l from (i - from))) ∙ ap (λ (x : ℕ). every is_zero (numbers_from l from x)) e
+pub zeros_turn : (l : List ℕ) (from i most w most' : ℕ) → w ≡ get_or l (from + i) 0 → is_zero most ≡ every is_zero (numbers_from l from i) → is_zero most' ≡ (is_zero w && is_zero most) → is_zero most' ≡ every is_zero (numbers_from l from (i + 1))
+zeros_turn l from i most w most' ew inv em =
+    em ∙ (λ j. is_zero (ew j) && inv j) ∙ sym (every_snoc (numbers_from l from i) (get_or l (from + i) 0))
+    ∙ ap (every is_zero) (sym (numbers_snoc l from i)) ∙ ap (λ (x : ℕ). every is_zero (numbers_from l from x)) (sym (add-one i))

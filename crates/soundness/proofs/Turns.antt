@@ -1,12 +1,13 @@
 -- One turn of each walk: what is left from here is the whole.
-use Prim.Native.Nat.{ℕ, suc, ◌+◌, ◌-◌, ◌≤◌, ◌<◌}
+use Prim.Native.Nat.{ℕ, zero, suc, ◌+◌, ◌*◌, ◌-◌, ◌≤◌, ◌<◌}
 use native.Mathlib.Omega.{arith}
-use borrow.Author.Tests.{le-leb, lt-leb, lt-ltb, le-ltb}
+use borrow.Author.Tests.{le-leb}
 use mathlib.Core.Path.{◌≡◌, refl, sym, ap, ◌∙◌}
 use mathlib.Core.Bool.{Bool, true, false, ◌&&◌}
 use mathlib.Core.List.{List}
 use lib.Dec.{leb, ltb}
 use lib.ListN.{get_or}
+use Rattle.std.specs.List.{list_all, range_with_len}
 use Rattle.operations.specs.Laid.{entries_of}
 use Rattle.record.proofs.Walks.{walk_on, walk_end, every_on, every_off, every_end}
 use Rattle.soundness.specs.Groups.{row_ok, live_at, live_from, next_ok, front_ok, follows_ok, next_pair, behind_from, members_ok, undo_ok}
@@ -18,52 +19,65 @@ on a r w h e = ap (λ (x : Bool). x && r) (sym e) ∙ h
 pub off : (a r w : Bool) → (a && r) ≡ w → a ≡ false → false ≡ w
 off a r w h e = ap (λ (x : Bool). x && r) (sym e) ∙ h
 
-module _ (largest cells : ℕ) (live : List ℕ) (b left low ahead : ℕ) (whole : Bool) (inv : live_from largest cells live b left low ahead ≡ whole) where
+module _ (largest cells : ℕ) (live : List ℕ) (n i low : ℕ) (whole : Bool) (inv : live_from largest cells live (live_width * i) (n - i) low i ≡ whole) where
   abbrev rows : List ℕ → Bool
-  rows bs = live_at largest cells live bs low ahead
+  rows bs = live_at largest cells live bs low i
 
-  module _ (more : 0 < left) where
-    live_next : (row_ok cells live b low ahead && live_from largest cells live (b + live_width) (left - 1) (get_or live b 0) (1 + ahead)) ≡ whole
+  abbrev here : Bool
+  here = row_ok cells live (live_width * i) low i
+
+  module _ (more : i < n) where
+    live_next : (here && live_from largest cells live (live_width * (i + 1)) (n - (i + 1)) (get_or live (live_width * i) 0) (1 + i)) ≡ whole
     unfolding live_from
-    live_next = walk_on (λ (p : ℕ). p + live_width) rows b left whole inv (b + live_width) (left - 1) refl (omega arith)
+    live_next = walk_on (λ (p : ℕ). p + live_width) rows (live_width * i) (n - i) whole inv (live_width * (i + 1)) (n - (i + 1)) (omega arith) (omega arith)
 
-    pub live_on : (m a : ℕ) → m ≡ get_or live b 0 → a ≡ 1 + ahead → row_ok cells live b low ahead ≡ true → live_from largest cells live (b + live_width) (left - 1) m a ≡ whole
-    live_on m a em ea e = (λ i. live_from largest cells live (b + live_width) (left - 1) (em i) (ea i)) ∙ on (row_ok cells live b low ahead) _ whole live_next e
+    pub live_on : (m : ℕ) → m ≡ get_or live (live_width * i) 0 → here ≡ true → live_from largest cells live (live_width * (i + 1)) (n - (i + 1)) m (i + 1) ≡ whole
+    live_on m em e =
+        let a : i + 1 ≡ 1 + i = omega arith in
+        (λ j. live_from largest cells live (live_width * (i + 1)) (n - (i + 1)) (em j) (a j)) ∙ on here _ whole live_next e
 
-    pub live_off : row_ok cells live b low ahead ≡ false → false ≡ whole
-    live_off e = off (row_ok cells live b low ahead) _ whole live_next e
+    pub live_off : here ≡ false → false ≡ whole
+    live_off e = off here _ whole live_next e
 
-  pub live_end : left ≤ 0 → leb low largest ≡ whole
+  pub live_end : n ≤ i → leb low largest ≡ whole
   unfolding live_from
-  live_end h = walk_end (λ (p : ℕ). p + live_width) rows b left whole inv (omega arith)
+  live_end h = walk_end (λ (p : ℕ). p + live_width) rows (live_width * i) (n - i) whole inv (omega arith)
 
-module _ (live : List ℕ) (b : ℕ) (runs : List ℕ) (c left : ℕ) (whole : Bool) (inv : behind_from live b runs c left ≡ whole) where
+module _ (live runs : List ℕ) (n i : ℕ) (whole : Bool) (inv : behind_from live (live_width * i) runs (run_width * i) (n - i) ≡ whole) where
   abbrev follows : ℕ × ℕ → Bool
   follows s = follows_ok live s.0 runs s.1
 
-  module _ (more : 0 < left) (s : ℕ) (es : s ≡ get_or runs (c + 1) 0) where
-    abbrev next : Bool
-    next = next_ok live (b + live_width) runs (c + run_width)
+  abbrev spot : ℕ → ℕ × ℕ
+  spot k = (live_width * k, run_width * k)
 
-    pub behind_open : s < 1 → false ≡ whole
+  onwards : next_pair (spot i) ≡ spot (i + 1)
+  onwards = let b : live_width * i + live_width ≡ live_width * (i + 1) = omega arith in
+      let c : run_width * i + run_width ≡ run_width * (i + 1) = omega arith in
+      λ j. (b j, c j)
+
+  abbrev next : Bool
+  next = next_ok live (live_width * (i + 1)) runs (run_width * (i + 1))
+
+  module _ (s : ℕ) (es : s ≡ get_or runs (run_width * i + 1) 0) where
+    pub is_open : s ≡ 0 → follows (spot i) ≡ false
+    is_open z = ap (λ (x : ℕ). leb 1 x && next_ok live (next_pair (spot i)).0 runs (next_pair (spot i)).1) (sym es ∙ z)
+
+    pub is_done : (s ≡ 0 → ⊥) → follows (spot i) ≡ next
+    is_done z =
+        (λ j. leb 1 (sym es j) && next_ok live (onwards j).0 runs (onwards j).1) ∙ ap (λ (x : Bool). x && next) (le-leb 1 s (omega arith))
+
+  module _ (more : i < n) where
+    pub behind_on : follows (spot i) ≡ true → behind_from live (live_width * (i + 1)) runs (run_width * (i + 1)) (n - (i + 1)) ≡ whole
     unfolding behind_from
-    behind_open h = every_off next_pair follows (b, c) left whole inv more (ap (λ (x : Bool). x && next) (ap (leb 1) (sym es) ∙ lt-leb 1 s h))
+    behind_on e = every_on next_pair follows (spot i) (n - i) whole inv (spot (i + 1)) (n - (i + 1)) onwards (omega arith) e
 
-    module _ (h : 1 ≤ s) where
-      passed : follows_ok live b runs c ≡ next
-      passed = ap (λ (x : Bool). x && next) (ap (leb 1) (sym es) ∙ le-leb 1 s h)
+    pub behind_off : follows (spot i) ≡ false → false ≡ whole
+    unfolding behind_from
+    behind_off e = every_off next_pair follows (spot i) (n - i) whole inv (omega arith) e
 
-      pub behind_on : next_ok live (b + live_width) runs (c + run_width) ≡ true → behind_from live (b + live_width) runs (c + run_width) (left - 1) ≡ whole
-      unfolding behind_from
-      behind_on e = every_on next_pair follows (b, c) left whole inv (b + live_width, c + run_width) (left - 1) refl (omega arith) (passed ∙ e)
-
-      pub behind_off : next_ok live (b + live_width) runs (c + run_width) ≡ false → false ≡ whole
-      unfolding behind_from
-      behind_off e = every_off next_pair follows (b, c) left whole inv more (passed ∙ e)
-
-  pub behind_end : left ≤ 0 → true ≡ whole
+  pub behind_end : n ≤ i → true ≡ whole
   unfolding behind_from
-  behind_end h = every_end next_pair follows (b, c) left whole inv (omega arith)
+  behind_end h = every_end next_pair follows (spot i) (n - i) whole inv (omega arith)
 
 module _ (live runs : List ℕ) (n : ℕ) where
   pub members_none : n ≡ 0 → true ≡ members_ok live runs n
@@ -74,20 +88,11 @@ module _ (live runs : List ℕ) (n : ℕ) where
   unfolding members_ok
   members_some h = let e : suc (n - 1) ≡ n = omega arith in ap (members_ok live runs) e
 
-module _ (cells : ℕ) (undo : List ℕ) (b left : ℕ) (whole : Bool) (inv : undo_ok cells undo b left ≡ whole) where
-  module _ (more : 0 < left) (w : ℕ) (ew : w ≡ get_or undo b 0) where
-    undo_next : (ltb w cells && undo_ok cells undo (b + 2) (left - 1)) ≡ whole
-    unfolding undo_ok entries_of
-    undo_next =
-        let e : suc (left - 1) ≡ left = omega arith in
-        ap (λ (x : ℕ). ltb x cells && undo_ok cells undo (b + 2) (left - 1)) ew ∙ ap (undo_ok cells undo b) e ∙ inv
-
-    pub undo_on : w < cells → undo_ok cells undo (b + 2) (left - 1) ≡ whole
-    undo_on h = on (ltb w cells) _ whole undo_next (lt-ltb w cells h)
-
-    pub undo_off : cells ≤ w → false ≡ whole
-    undo_off h = off (ltb w cells) _ whole undo_next (le-ltb w cells h)
-
-  pub undo_end : left ≤ 0 → true ≡ whole
+-- entries asked by number, n of them from number i on
+module _ (cells : ℕ) (undo : List ℕ) where
+  pub undo_asked : (i n : ℕ) → list_all (λ (k : ℕ). ltb (get_or undo (2 * k) 0) cells) (range_with_len i n) ≡ undo_ok cells undo (2 * i) n
   unfolding undo_ok entries_of
-  undo_end h = let e : 0 ≡ left = omega arith in ap (undo_ok cells undo b) e ∙ inv
+  undo_asked i zero = refl
+  undo_asked i (suc n) =
+      let e : 2 * (i + 1) ≡ 2 * i + 2 = omega arith in
+      ap (λ (x : Bool). ltb (get_or undo (2 * i) 0) cells && x) (undo_asked (i + 1) n ∙ ap (λ (x : ℕ). undo_ok cells undo x n) e)

@@ -1,13 +1,12 @@
 -- Refusal 1 as one walk after the other asks it of a record's words, grouped by row. A read past a row's end gives 0.
 use Rattle.std.specs.Prelude.{ℕ, zero, suc, ◌+◌, ◌*◌, ◌%◌, Bool, true, ◌&&◌, ◌||◌, List, [], ◌∷◌, map, leb, ltb, eqb, get_or}
 use Rattle.model.specs.Limits.{most_live}
-use Rattle.model.specs.Refusals.{every, storable, formed_op, formed_kind}
+use Rattle.model.specs.Refusals.{every, storable, formed_op}
 use Rattle.model.specs.declared.Op.{Op}
 use Rattle.model.specs.declared.Undo.{Undo}
 use Rattle.operations.specs.Laid.{entries_of}
 use Rattle.record.specs.Walk.{walk, places}
-use Rattle.record.specs.View.{op_at, fragment_at, attempt_at}
-unfoldable pub use Rattle.record.specs.View.{entries_from as total_from}
+use Rattle.record.specs.View.{op_at, fragment_at, attempt_at, entries_from}
 use Rattle.record.specs.Widths.{op_width, live_width, run_width}
 
 abbrev pub is_zero : ℕ → Bool
@@ -20,10 +19,6 @@ ops_from l b n = map (op_at l) (places b op_width n)
 -- an operation that 4 and 5 would not refuse
 abbrev pub storable_op : ℕ → Op → Bool
 storable_op cells o = formed_op o && ltb o.cell cells
-
--- a fragment's kind by its two words: it reads no other
-abbrev pub kind_ok : ℕ → ℕ → Bool
-kind_ok flags coordinator = formed_kind (record { flags = flags; coordinator = coordinator; count = 0; row = [] })
 
 -- an attempt of one that so many are ahead of (02, L2)
 abbrev pub attempt_ok : ℕ → ℕ → Bool
@@ -93,4 +88,4 @@ groups count largest uncommitted waiting live runs undo =
     leb count 4096 && leb uncommitted 16 && leb (uncommitted + waiting) 64
     && live_from largest count live 0 (uncommitted + waiting) 0 0
     && members_ok live runs uncommitted
-    && undo_ok count undo 0 (total_from runs 0 uncommitted)
+    && undo_ok count undo 0 (entries_from runs 0 uncommitted)

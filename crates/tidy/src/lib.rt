@@ -7,16 +7,16 @@ ghost use Rattle.model.specs.Operations.{pick};
 ghost use Rattle.tidy.specs.Runs.{used, tidy_run, tidy_runs, entries_from, few_runs};
 
 // How many words of the run at a place are in use: six and its numbers where its answer is held, four where it was sent.
+#[tactic(auto, unfolding(crate::specs::Runs::used))]
 pub(crate) fn used_at(runs: &[u32], at: u32) -> u32
     ensures { result ≡ used runs.now at }
 {
     let c = at as usize;
-    let reply = operations::number_at(runs, c + 2);
-    if reply != 1 {
-        return 4;
+    if operations::number_at(runs, c + record::RUN_REPLY) == record::HELD {
+        6 + operations::number_at(runs, c + record::RUN_COUNT).min(8)
+    } else {
+        4
     }
-    let count = operations::number_at(runs, c + 5);
-    if count < 8 { 6 + count } else { 14 }
 }
 
 // Clears what a run does not use of its sixteen places.
@@ -24,9 +24,8 @@ pub(crate) fn tidy_run(runs: &mut [u32], at: u32)
     requires { at ≤ runs_length }
     ensures { runs.new ≡ tidy_run runs.old at }
 {
-    let zeros = [0u32; record::RUN_WORDS];
     let k = used_at(runs, at);
-    record::lay(runs, at + k, &zeros, record::RUN_WIDTH - k);
+    record::lay(runs, at + k, &[0; record::RUN_WORDS], record::RUN_WIDTH - k);
 }
 
 // So for the first n runs.
@@ -34,26 +33,9 @@ pub(crate) fn tidy_runs(runs: &mut [u32], n: u32)
     requires { n ≤ 16 }
     ensures { runs.new ≡ tidy_runs runs.old 0 n }
 {
-    let mut i: u32 = 0;
-    while i < n {
+    for i in 0..n {
         tidy_run(runs, record::RUN_WIDTH * i);
-        i = i + 1;
     }
-}
-
-// How many undo entries the first n runs own together.
-pub(crate) fn entries_in(runs: &[u32], n: u32) -> usize
-    requires { n ≤ 16 }
-    ensures { result ≡ entries_from runs.now 0 n }
-{
-    let mut sum: usize = 0;
-    let mut i: usize = 0;
-    while i < n as usize {
-        let own = operations::number_at(runs, record::RUN_WORDS * i + 3);
-        sum = sum + own as usize;
-        i = i + 1;
-    }
-    sum
 }
 
 // The runs of a sound record's uncommitted ones made canonical, and how many undo entries they own. More than the limits allow are no sound
@@ -65,7 +47,7 @@ pub fn tidy(runs: &mut [u32], uncommitted: u32) -> u32
     if model::DEPTH < uncommitted {
         return 0;
     }
-    let n = entries_in(runs, uncommitted);
+    let n = record::entries_owned(runs, uncommitted);
     if (model::MOST_ENTRIES as usize) < n {
         return 0;
     }

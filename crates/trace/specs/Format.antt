@@ -1,11 +1,10 @@
 -- Document 01, "The trace program": what bytes mean as a trace. A byte past the end is 0.
-use Rattle.std.specs.Prelude.{ℕ, zero, suc, ◌+◌, ◌*◌, Bool, ◌&&◌, List, [], ◌∷◌, leb, eqb, length, get_or}
+use Rattle.std.specs.Prelude.{ℕ, zero, suc, ◌+◌, ◌*◌, Bool, ◌&&◌, Option, None, Some, List, [], ◌∷◌, leb, eqb, length, get_or}
 use Rattle.model.specs.Limits.{most_cells}
 use Rattle.model.specs.Operations.{pick}
 use Rattle.model.specs.declared.Op.{Op}
 use Rattle.model.specs.declared.Event.{Event}
 use Rattle.trace.specs.declared.Shape.{Shape}
-use Rattle.trace.specs.declared.Shape.TheVariants.{Bad, Trace}
 
 -- "32-bit little-endian words": the word number i
 unfoldable pub word_at : List ℕ → ℕ → ℕ
@@ -27,8 +26,8 @@ good l =
     && eqb (length l) (4 * (4 + word_at l 0 + 29 * word_at l 2))
 
 -- "Else it prints `bad trace` alone."
-unfoldable pub shape_of : List ℕ → Shape
-shape_of l = pick (good l) (Trace (word_at l 0) (word_at l 2) (word_at l 3)) Bad
+unfoldable pub shape_of : List ℕ → Option Shape
+shape_of l = pick (good l) (Some (record { cells = word_at l 0; events = word_at l 2; first = word_at l 3 })) None
 
 -- "code, cell, amount": the operation whose words start at word b
 abbrev pub op_from : List ℕ → ℕ → Op

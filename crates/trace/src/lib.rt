@@ -2,25 +2,26 @@
 // function is total: a byte that is not there is 0, and what would stand past a slice's end is not kept.
 #![tactic(auto)]
 
-ghost use Rattle.std.specs.Prelude.{◌≡◌, ◌+◌, ◌*◌, ◌<◌, ◌≤◌, length, get_or, set};
+ghost use Rattle.std.specs.Prelude.{◌≡◌, ◌+◌, ◌*◌, ◌<◌, ◌≤◌, length, get_or};
 ghost use Rattle.std.proofs.lemmas.List.Edits.{sets};
 ghost use Rattle.trace.specs.Format.{word_at, words_from, op_from, event_at, shape_of};
-ghost use Rattle.trace.specs.Text.{decimal, fields_from, line_from, line_e, told_from, line_a, line_c, bad_trace, bad_scheme};
+ghost use Rattle.trace.specs.Text.{decimal, fields_from, line_from, line_e, told_from, line_a, line_c};
 
 use model::{Event, Fragment, Op};
 
-// What bytes are: a trace with its counts and the word at which its events start, or none.
+// What a trace has: its counts and the word at which its events start.
 #[derive(Clone, Copy)]
-pub enum Shape {
-    Bad,
-    Trace { cells: u32, events: u32, first: u32 },
+pub struct Shape {
+    pub cells: u32,
+    pub events: u32,
+    pub first: u32,
 }
 
 // The byte at a place, 0 past the end.
-pub(crate) fn byte_at(bytes: &[u8], i: usize) -> u32
-    ensures { (result ≡ get_or bytes.now i 0) × (result < 256) }
+pub(crate) fn byte_at(bytes: &[u8], i: usize) -> u8
+    ensures { result ≡ get_or bytes.now i 0 }
 {
-    if i < bytes.len() { bytes[i] as u32 } else { 0 }
+    bytes.get(i).copied().unwrap_or(0)
 }
 
 // "32-bit little-endian words"
@@ -32,7 +33,7 @@ pub(crate) fn word_at(bytes: &[u8], i: usize) -> u32
     let b1 = byte_at(bytes, 4 * i + 1);
     let b2 = byte_at(bytes, 4 * i + 2);
     let b3 = byte_at(bytes, 4 * i + 3);
-    b0 + 256 * b1 + 65536 * b2 + 16777216 * b3
+    u32::from_le_bytes([b0, b1, b2, b3])
 }
 
 // The word number i, 0 past the end.
@@ -43,37 +44,24 @@ pub fn word(bytes: &[u8], i: u32) -> u32
 }
 
 // "1 to 4,096 cells, 0 to 256 events, nothing after. Else it prints `bad trace` alone."
-pub fn shape_of(bytes: &[u8]) -> Shape
+pub fn shape_of(bytes: &[u8]) -> Option<Shape>
     ensures { result ≡ shape_of bytes.now }
 {
     let cells = word(bytes, 0);
-    if cells < 1 {
-        return Shape::Bad;
-    }
-    if model::MOST_CELLS < cells {
-        return Shape::Bad;
-    }
     let offset = word(bytes, 1);
-    if offset != 4 {
-        return Shape::Bad;
-    }
     let events = word(bytes, 2);
-    if 256 < events {
-        return Shape::Bad;
-    }
     let first = word(bytes, 3);
-    if first != 4 + cells {
-        return Shape::Bad;
-    }
-    let words = 4 + cells + model::EVENT_WORDS * events;
-    if bytes.len() != 4 * (words as usize) {
-        return Shape::Bad;
-    }
-    Shape::Trace {
-        cells: cells,
-        events: events,
-        first: first,
-    }
+    let good = 1 <= cells
+        && cells <= model::MOST_CELLS
+        && offset == 4
+        && events <= 256
+        && first == 4 + cells
+        && bytes.len() == 4 * (4 + cells + model::EVENT_WORDS * events) as usize;
+    good.then_some(Shape {
+        cells,
+        events,
+        first,
+    })
 }
 
 // The operation whose three words start at b.
@@ -81,13 +69,10 @@ pub(crate) fn op_at(bytes: &[u8], b: usize) -> Op
     requires { b < 8589934590 }
     ensures { result ≡ op_from bytes.now b }
 {
-    let c = word_at(bytes, b);
-    let e = word_at(bytes, b + 1);
-    let v = word_at(bytes, b + 2);
     Op {
-        code: c,
-        cell: e,
-        amount: v,
+        code: word_at(bytes, b),
+        cell: word_at(bytes, b + 1),
+        amount: word_at(bytes, b + 2),
     }
 }
 
@@ -96,30 +81,24 @@ pub fn event_at(bytes: &[u8], at: u32) -> Event
     ensures { result ≡ event_at bytes.now at }
 {
     let b = at as usize;
-    let kind = word_at(bytes, b);
-    let number = word_at(bytes, b + 1);
-    let flags = word_at(bytes, b + 2);
-    let coordinator = word_at(bytes, b + 3);
-    let count = word_at(bytes, b + 4);
-    let o0 = op_at(bytes, b + 5);
-    let o1 = op_at(bytes, b + 8);
-    let o2 = op_at(bytes, b + 11);
-    let o3 = op_at(bytes, b + 14);
-    let o4 = op_at(bytes, b + 17);
-    let o5 = op_at(bytes, b + 20);
-    let o6 = op_at(bytes, b + 23);
-    let o7 = op_at(bytes, b + 26);
-    let ops = [o0, o1, o2, o3, o4, o5, o6, o7];
-    let f = Fragment {
-        flags: flags,
-        coordinator: coordinator,
-        count: count,
-        row: ops,
-    };
     Event {
-        kind: kind,
-        number: number,
-        fragment: f,
+        kind: word_at(bytes, b),
+        number: word_at(bytes, b + 1),
+        fragment: Fragment {
+            flags: word_at(bytes, b + 2),
+            coordinator: word_at(bytes, b + 3),
+            count: word_at(bytes, b + 4),
+            row: [
+                op_at(bytes, b + 5),
+                op_at(bytes, b + 8),
+                op_at(bytes, b + 11),
+                op_at(bytes, b + 14),
+                op_at(bytes, b + 17),
+                op_at(bytes, b + 20),
+                op_at(bytes, b + 23),
+                op_at(bytes, b + 26),
+            ],
+        },
     }
 }
 
@@ -127,32 +106,20 @@ pub fn event_at(bytes: &[u8], at: u32) -> Event
 pub fn copy_cells(bytes: &[u8], count: u32, cells: &mut [u32])
     ensures { cells.new ≡ sets cells.old 0 (words_from bytes.now 4 count) }
 {
-    let mut i: usize = 0;
-    while i < count as usize {
-        let w = word_at(bytes, 4 + i);
-        operations::put_at(cells, i, w);
-        i = i + 1;
+    for i in 0..count as usize {
+        operations::put_at(cells, i, word_at(bytes, 4 + i));
     }
 }
 
-// Puts a byte at a place of a buffer, nowhere past its end.
-pub(crate) fn put_byte(buffer: &mut [u8], at: usize, b: u8)
-    ensures { buffer.new ≡ set buffer.old at b }
-{
-    if at < buffer.len() {
-        buffer[at] = b;
-    }
-}
-
-// How many decimal digits a number has.
+// How many decimal digits a number has. The library has no decimal logarithm.
 pub(crate) fn places(n: u32) -> usize
     ensures { result ≡ length (decimal n) }
 {
-    let mut k: usize = 1;
+    let mut k = 1;
     let mut m = n;
     while 10 <= m {
-        m = m / 10;
-        k = k + 1;
+        m /= 10;
+        k += 1;
     }
     k
 }
@@ -164,12 +131,10 @@ pub(crate) fn put_decimal(buffer: &mut [u8], at: usize, n: u32) -> usize
     ensures buffer_after { buffer.new ≡ sets buffer.old at (decimal n) }
 {
     let k = places(n);
-    let mut i = k;
     let mut m = n;
-    while 0 < i {
-        i = i - 1;
-        put_byte(buffer, at + i, (48 + m % 10) as u8);
-        m = m / 10;
+    for i in (0..k).rev() {
+        operations::put_at(buffer, at + i, b'0' + (m % 10) as u8);
+        m /= 10;
     }
     at + k
 }
@@ -187,12 +152,9 @@ pub(crate) fn put_fields(
     ensures buffer_after { buffer.new ≡ sets buffer.old at (fields_from row.now from count) }
 {
     let mut p = at;
-    let mut j: usize = 0;
-    while j < count {
-        let n = operations::number_at(row, from + j);
-        put_byte(buffer, p, b' ');
-        p = put_decimal(buffer, p + 1, n);
-        j = j + 1;
+    for j in 0..count {
+        operations::put_at(buffer, p, b' ');
+        p = put_decimal(buffer, p + 1, operations::number_at(row, from + j));
     }
     p
 }
@@ -211,9 +173,9 @@ pub(crate) fn put_line(
     ensures buffer_after { buffer.new ≡ sets buffer.old at (line_from letter row.now from count) }
 {
     let start = at as usize;
-    put_byte(buffer, start, letter);
+    operations::put_at(buffer, start, letter);
     let p = put_fields(buffer, start + 1, row, from, count);
-    put_byte(buffer, p, b'\n');
+    operations::put_at(buffer, p, b'\n');
     p + 1
 }
 
@@ -222,8 +184,7 @@ pub fn put_e(buffer: &mut [u8], at: u32, position: u32, number: u32) -> usize
     ensures value { result ≡ at + length (line_e position number) }
     ensures buffer_after { buffer.new ≡ sets buffer.old at (line_e position number) }
 {
-    let row = [position, number];
-    put_line(buffer, at, b'e', &row, 0, 2)
+    put_line(buffer, at, b'e', &[position, number], 0, 2)
 }
 
 // The fields of the answer whose words start at b: transaction and dependence, both attempts ("both after the dependence", 02, L2), place, count and
@@ -233,13 +194,10 @@ pub(crate) fn put_told(buffer: &mut [u8], at: usize, room: &[u32], b: usize) -> 
     ensures value { result ≡ at + length (told_from room.now b) }
     ensures buffer_after { buffer.new ≡ sets buffer.old at (told_from room.now b) }
 {
-    let count = operations::number_at(room, b + 3);
+    let count = operations::number_at(room, b + 3).min(8);
     let p = put_fields(buffer, at, room, b, 2);
     let q = put_fields(buffer, p, room, b + 12, 2);
-    if count < 8 {
-        return put_fields(buffer, q, room, b + 2, 2 + count as usize);
-    }
-    put_fields(buffer, q, room, b + 2, 10)
+    put_fields(buffer, q, room, b + 2, 2 + count as usize)
 }
 
 // "then `a` transaction, dependence, place, count and that many numbers for each answer": the one whose 16 words start at 16 * i in the room, with its
@@ -249,9 +207,9 @@ pub fn put_a(buffer: &mut [u8], at: u32, room: &[u32], i: u32) -> usize
     ensures buffer_after { buffer.new ≡ sets buffer.old at (line_a room.now i) }
 {
     let start = at as usize;
-    put_byte(buffer, start, b'a');
+    operations::put_at(buffer, start, b'a');
     let p = put_told(buffer, start + 1, room, model::ANSWER_WORDS * (i as usize));
-    put_byte(buffer, p, b'\n');
+    operations::put_at(buffer, p, b'\n');
     p + 1
 }
 
@@ -260,37 +218,5 @@ pub fn put_c(buffer: &mut [u8], at: u32, cell: u32, content: u32) -> usize
     ensures value { result ≡ at + length (line_c cell content) }
     ensures buffer_after { buffer.new ≡ sets buffer.old at (line_c cell content) }
 {
-    let row = [cell, content];
-    put_line(buffer, at, b'c', &row, 0, 2)
-}
-
-// A text from place `at` on.
-pub(crate) fn put_text(buffer: &mut [u8], at: u32, text: &[u8]) -> usize
-    requires { length text.now < 1024 }
-    ensures value { result ≡ at + length text.now }
-    ensures buffer_after { buffer.new ≡ sets buffer.old at text.now }
-{
-    let start = at as usize;
-    let mut i: usize = 0;
-    while i < text.len() {
-        put_byte(buffer, start + i, text[i]);
-        i = i + 1;
-    }
-    start + i
-}
-
-// "Else it prints `bad trace` alone."
-pub fn put_bad(buffer: &mut [u8], at: u32) -> usize
-    ensures value { result ≡ at + length bad_trace }
-    ensures buffer_after { buffer.new ≡ sets buffer.old at bad_trace }
-{
-    put_text(buffer, at, b"bad trace\n")
-}
-
-// `bad scheme` alone, where the command's word names none.
-pub fn put_bad_scheme(buffer: &mut [u8], at: u32) -> usize
-    ensures value { result ≡ at + length bad_scheme }
-    ensures buffer_after { buffer.new ≡ sets buffer.old at bad_scheme }
-{
-    put_text(buffer, at, b"bad scheme\n")
+    put_line(buffer, at, b'c', &[cell, content], 0, 2)
 }

@@ -1,9 +1,17 @@
-use mathlib.Core.Path.{sym, ◌∙◌}
-use Rattle.listing.proofs.Events.{scheme_put, unknown_put}
+use native.Mathlib.Omega.{arith}
+use mathlib.Core.Path.{◌≡◌, ◌∙◌}
+use lib.ListN.{drop}
+use lib.Seq.{sets}
+use borrow.Author.Rules.{rules}
+use Rattle.listing.specs.Printed.{listing_of}
+use Rattle.listing.proofs.Texts.{shown_whole}
 use Rattle.listing.proofs.put_listing.Goals as goal
 
-pub returns-in-By : goal.returns-in-By
-returns-in-By c = let a = c.args in let all = scheme_put a.from a.word.now a.bytes.now a.buffer.now _ _ c.in-By.scheme (sym c.in-By.is ∙ c.scheme_of.ensures) c.put_lines.ensures in record { value = all.0; buffer_after = all.1 }
+pub returns-clause-value : goal.returns-clause-value
+returns-clause-value c = omega (arith, c.put_all.ensures.put.place)
 
-pub returns-in-Unknown : goal.returns-in-Unknown
-returns-in-Unknown c = let a = c.args in let all = unknown_put a.from a.word.now a.bytes.now a.buffer.now _ _ (sym c.in-Unknown.is ∙ c.scheme_of.ensures) c.put_bad_scheme.ensures in record { value = all.0; buffer_after = all.1 }
+pub returns-clause-buffer_after : goal.returns-clause-buffer_after
+returns-clause-buffer_after c = let a = c.args in
+    let text = listing_of a.word.now a.bytes.now in
+    let e : c.put_all.new.self.buffer.now ≡ sets a.buffer.now 0 (drop a.from text) = c.put_all.ensures.put.bytes ∙ shown_whole a.from a.buffer.now text in
+    search rules

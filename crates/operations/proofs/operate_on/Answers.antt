@@ -4,18 +4,20 @@ use Rattle.operations.proofs.operate_on.Goals as goal
 
 pub returns-then-may_write : goal.returns-then-may_write
 returns-then-may_write c = let a = c.args in
-    let n = c.number_at-x in
-    let d = c.apply-d in
-    let w = c.may_write in record { value = operated_as a.o a.cells.now n.result d.result n.ensures d.ensures _ c.in-Number.is; cells_after = after_writes a.o a.cells.now n.result d.result n.ensures d.ensures c.in-Number.y c.in-Number.is w.result w.ensures c.if-may_write.true _ c.put_at.ensures }
+    let n = c.number_at-old in
+    let d = c.apply-did in
+    let w = c.may_write in
+    record { value = operated_as a.o a.cells.now n.result d.result n.ensures d.ensures _ c.in-Ok.is; cells_after = after_writes a.o a.cells.now n.result d.result n.ensures d.ensures c.in-Ok.y c.in-Ok.is w.result w.ensures c.if-may_write.true _ c.put_at.ensures }
 
 pub returns-else-may_write : goal.returns-else-may_write
 returns-else-may_write c = let a = c.args in
-    let n = c.number_at-x in
-    let d = c.apply-d in
-    let w = c.may_write in record { value = operated_as a.o a.cells.now n.result d.result n.ensures d.ensures _ c.in-Number.is; cells_after = after_reads a.o a.cells.now n.result d.result n.ensures d.ensures c.in-Number.y c.in-Number.is w.result w.ensures c.if-may_write.false }
+    let n = c.number_at-old in
+    let d = c.apply-did in
+    let w = c.may_write in
+    record { value = operated_as a.o a.cells.now n.result d.result n.ensures d.ensures _ c.in-Ok.is; cells_after = after_reads a.o a.cells.now n.result d.result n.ensures d.ensures c.in-Ok.y c.in-Ok.is w.result w.ensures c.if-may_write.false }
 
-pub returns-in-Fails : goal.returns-in-Fails
-returns-in-Fails c = let a = c.args in
-    let n = c.number_at-x in
-    let d = c.apply-d in
-    record { value = operated_as a.o a.cells.now n.result d.result n.ensures d.ensures d.result refl; cells_after = after_fails a.o a.cells.now n.result d.result n.ensures d.ensures c.in-Fails.field-0 c.in-Fails.is }
+pub returns-in_default : goal.returns-in_default
+returns-in_default c = let a = c.args in
+    let n = c.number_at-old in
+    let d = c.apply-did in
+    record { value = operated_as a.o a.cells.now n.result d.result n.ensures d.ensures d.result refl; cells_after = after_fails a.o a.cells.now n.result d.result n.ensures d.ensures c.in_default.field-0 c.in_default.is }

@@ -1,9 +1,9 @@
 use Prim.Native.Nat.{ℕ, ◌-◌}
-use mathlib.Core.Path.{sym, ap, ◌∙◌}
-use mathlib.Core.List.{List}
-use lib.Seq.{sets}
+use mathlib.Core.Path.{◌≡◌, sym, ap, ◌∙◌}
+use borrow.Author.Rules.{rules}
+use borrow.Rule.Slice.PartMut.{put_mid}
 use Rattle.record.specs.View.{shifted, zeros}
-use Rattle.record.proofs.Rows.{shifted_none, shift_parts}
+use Rattle.record.proofs.Rows.{shifted_none, shift_moved}
 use Rattle.record.proofs.shift.Goals as goal
 
 pub returns-then-k-eq0 : goal.returns-then-k-eq0
@@ -12,7 +12,8 @@ returns-then-k-eq0 c = let a = c.args in
 
 pub returns : goal.returns
 returns c = let a = c.args in
-    let stop = c.least-stop in
-    let n = c.less-n in
-    c.blank.ensures ∙ ap (λ (x : List ℕ). sets x n.result (zeros (stop.result - n.result))) c.move_down.ensures
-    ∙ shift_parts a.row.now a.k a.m n.result stop.result stop.ensures n.ensures
+    let stop = c.min-stop.result in
+    let n = c.saturating_sub-n.result in
+    let f : c.fill.new.self ≡ zeros (stop - n) = search rules in
+    (λ i. put_mid n (stop - n) (c.copy_within.ensures.after i) (f i))
+    ∙ shift_moved a.row.now a.k a.m n stop c.min.result c.min-stop.ensures c.saturating_sub-n.ensures c.min.ensures

@@ -1,58 +1,61 @@
+use Prim.Native.Nat.{◌≤◌}
 use native.Mathlib.Omega.{arith}
-use mathlib.Core.Path.{◌≡◌, sym, ◌∙◌}
-use mathlib.Core.Bool.{true, false}
-use lib.ListN.{length, get_or}
-use borrow.Author.Tests.{eq-eqb, ne_eqb}
-use Rattle.model.specs.Limits.{event_words}
+use mathlib.Core.Path.{◌≡◌, sym, ap, ◌∙◌}
 use Rattle.record.specs.Events.{event_of}
-use Rattle.record.proofs.Events.{kind_by}
-use Rattle.refusals.proofs.Firsts.{event_numberless, event_unknown, event_arrives, event_decides, event_more}
+use Rattle.std.proofs.lemmas.Result.{err_from_is_err_and}
+use Rattle.model.proofs.KindWords.{word_of, kind_word, kind_unknown}
+use Rattle.model.specs.declared.Kind.{Kind}
+use Rattle.std.proofs.Common.{Ok, ◌⊎◌, inl, inr}
+use Rattle.model.specs.declared.Kind.TheVariants.{Fragment, Commit, Abort}
+use Rattle.refusals.proofs.Firsts.{kind_first, event_unknown, event_arrives, event_decides, event_more}
 use Rattle.refusals.proofs.event_row.Goals as goal
 
-pub returns-then-event : goal.returns-then-event
-unfolding event_of
-returns-then-event c = let a = c.args in
-    let l = a.event.now in
-    let k : 0 ≡ (event_of l).kind = kind_by false l (ne_eqb (length l) event_words c.if-event.true) in
-    event_unknown a.count (event_of l) (λ e. omega arith) (λ e. omega arith) (λ e. omega arith)
+-- the words of the two decisions
+decides : (k : Kind) → (k ≡ Commit) ⊎ (k ≡ Abort) → (2 ≤ word_of k) × (word_of k ≤ 3)
+decides Fragment e = elim e [ inl x ↦ cc | inr x ↦ cc ]
+decides Commit e = (omega arith, omega arith)
+decides Abort e = (omega arith, omega arith)
 
-pub returns-then-event-lt1 : goal.returns-then-event-lt1
+pub returns-in_err-kind-clause-row : goal.returns-in_err-kind-clause-row
 unfolding event_of
-returns-then-event-lt1 c = let a = c.args in
-    let l = a.event.now in
-    event_numberless a.count (event_of l) c.if-event-lt1.true
+returns-in_err-kind-clause-row c = let a = c.args in
+    let v = event_of a.event.now in
+    let none = kind_unknown v.kind c.in_err-kind.field-0.0 (kind_first a.event.now c.try_from.result (omega arith) c.try_from.ensures ∙ c.in_err-kind.was) in
+    let p = err_from_is_err_and c.from_residual.result c.from_residual.ensures.1 in
+    rw (p.1, p.2) (event_unknown a.count v (none Fragment) (none Commit) (none Abort))
 
-pub returns-then-kind-eq1 : goal.returns-then-kind-eq1
+pub returns-in_err-arrival_row-in-Fragment-clause-row : goal.returns-in_err-arrival_row-in-Fragment-clause-row
 unfolding event_of
-returns-then-kind-eq1 c = let a = c.args in
-    let l = a.event.now in
-    let k : get_or l 0 0 ≡ (event_of l).kind = kind_by true l (eq-eqb (length l) event_words c.if-event.false) in
-    c.arrival_row.ensures ∙ event_arrives a.count (event_of l) c.if-event-lt1.false (sym k ∙ c.if-kind-eq1.true)
+returns-in_err-arrival_row-in-Fragment-clause-row c = let a = c.args in
+    let v = event_of a.event.now in
+    let k = kind_word v.kind Fragment (kind_first a.event.now c.try_from.result (omega arith) c.try_from.ensures ∙ c.in_ok-kind.was ∙ ap Ok c.in-Fragment.is) in
+    let p = err_from_is_err_and c.from_residual-in_err-arrival_row-in-Fragment.result c.from_residual-in_err-arrival_row-in-Fragment.ensures.1 in
+    rw (p.1, p.2) (c.in_err-arrival_row-in-Fragment.ensures ∙ event_arrives a.count v c.if-event-lt1.false k)
 
-pub returns-then-kind-lt2 : goal.returns-then-kind-lt2
+pub returns-in_ok-arrival_row-in-Fragment-clause-row : goal.returns-in_ok-arrival_row-in-Fragment-clause-row
 unfolding event_of
-returns-then-kind-lt2 c = let a = c.args in
-    let l = a.event.now in
-    let k : get_or l 0 0 ≡ (event_of l).kind = kind_by true l (eq-eqb (length l) event_words c.if-event.false) in
-    event_unknown a.count (event_of l) (λ e. c.if-kind-eq1.false (k ∙ e)) (λ e. omega arith) (λ e. omega arith)
+returns-in_ok-arrival_row-in-Fragment-clause-row c = let a = c.args in
+    let v = event_of a.event.now in
+    let k = kind_word v.kind Fragment (kind_first a.event.now c.try_from.result (omega arith) c.try_from.ensures ∙ c.in_ok-kind.was ∙ ap Ok c.in-Fragment.is) in
+    c.in_ok-arrival_row-in-Fragment.ensures ∙ event_arrives a.count v c.if-event-lt1.false k
 
-pub returns-then-kind-gt3 : goal.returns-then-kind-gt3
-unfolding event_of
-returns-then-kind-gt3 c = let a = c.args in
-    let l = a.event.now in
-    let k : get_or l 0 0 ≡ (event_of l).kind = kind_by true l (eq-eqb (length l) event_words c.if-event.false) in
-    event_unknown a.count (event_of l) (λ e. c.if-kind-eq1.false (k ∙ e)) (λ e. omega arith) (λ e. omega arith)
+pub returns-in_ok-arrival_row-in-Fragment-clause-kind : goal.returns-in_ok-arrival_row-in-Fragment-clause-kind
+returns-in_ok-arrival_row-in-Fragment-clause-kind c = let a = c.args in
+    kind_first a.event.now c.try_from.result (omega arith) c.try_from.ensures ∙ c.in_ok-kind.was
 
-pub returns-then-is_blank_at : goal.returns-then-is_blank_at
+pub returns-then-not-is_blank_at : goal.returns-then-not-is_blank_at
 unfolding event_of
-returns-then-is_blank_at c = let a = c.args in
-    let l = a.event.now in
-    let k : get_or l 0 0 ≡ (event_of l).kind = kind_by true l (eq-eqb (length l) event_words c.if-event.false) in
-    event_decides a.count (event_of l) c.if-event-lt1.false (omega arith) (omega arith) (sym c.is_blank_at.ensures ∙ c.if-is_blank_at.true)
+returns-then-not-is_blank_at c = let a = c.args in
+    let v = event_of a.event.now in
+    let k = kind_word v.kind c.in_ok-kind.kind (kind_first a.event.now c.try_from.result (omega arith) c.try_from.ensures ∙ c.in_ok-kind.was) in
+    let d = decides c.in_ok-kind.kind c.in-Commit.is in
+    record { row = event_more a.count v c.if-event-lt1.false (omega arith) (omega arith) (sym c.if-not-is_blank_at.ensures); kind = tt }
 
-pub returns : goal.returns
+pub returns-else-not-is_blank_at : goal.returns-else-not-is_blank_at
 unfolding event_of
-returns c = let a = c.args in
-    let l = a.event.now in
-    let k : get_or l 0 0 ≡ (event_of l).kind = kind_by true l (eq-eqb (length l) event_words c.if-event.false) in
-    event_more a.count (event_of l) c.if-event-lt1.false (omega arith) (omega arith) (sym c.is_blank_at.ensures ∙ c.if-is_blank_at.false)
+returns-else-not-is_blank_at c = let a = c.args in
+    let v = event_of a.event.now in
+    let o = kind_first a.event.now c.try_from.result (omega arith) c.try_from.ensures ∙ c.in_ok-kind.was in
+    let k = kind_word v.kind c.in_ok-kind.kind o in
+    let d = decides c.in_ok-kind.kind c.in-Commit.is in
+    record { row = event_decides a.count v c.if-event-lt1.false (omega arith) (omega arith) (sym c.if-not-is_blank_at.ensures); kind = o }

@@ -1,9 +1,12 @@
-use Rattle.std.proofs.Common.{◌-◌, ◌≡◌, length}
+use Prim.Native.Nat.{◌-◌, ◌≤◌}
+use lib.ListN.{length, take}
+use Rattle.std.specs.Io.KnownBytes.{Appends}
 use Rattle.listing.specs.Printed.{listing_of}
 use Rattle.replay.proofs.write_listing.Given as goal
 
-abbrev pub invariant-loop-from : goal.invariant-loop-from
-invariant-loop-from g l = (65536 ≡ length l.text) × (l.all ≡ length (listing_of l.fn.word l.fn.bytes))
+abbrev pub invariant-loop-output : goal.invariant-loop-output
+invariant-loop-output g l =
+    (l.from ≤ length (listing_of l.word l.bytes)) × Appends (g.W.Write.contents l.initial.output) (g.W.Write.contents l.output) (take l.from (listing_of l.word l.bytes))
 
-abbrev pub decreases-loop-from : goal.decreases-loop-from
-decreases-loop-from g l = length (listing_of l.fn.word l.fn.bytes) - l.from
+abbrev pub decreases-loop-output : goal.decreases-loop-output
+decreases-loop-output g l = length (listing_of l.word l.bytes) - l.from

@@ -1,6 +1,4 @@
-use Prim.Native.Nat.{ℕ}
-use mathlib.Core.Path.{◌≡◌, ap}
-use mathlib.Core.List.{List}
+use mathlib.Core.Path.{◌≡◌}
 use lib.ListN.{length}
 use Rattle.rows.specs.Rows.{answer_row}
 use Rattle.record.proofs.Rows.{eight}
@@ -8,4 +6,6 @@ use borrow.Author.Rules.{rules}
 use Rattle.rows.proofs.answer_row.Goals as goal
 
 pub returns : goal.returns
-returns c = let e : length c.args.numbers ≡ 8 = search rules in ap {B = List ℕ} (λ (x : List ℕ). answer_row c.args.own c.args.near c.args.place c.args.count x) (eight 0 c.args.numbers e)
+returns c = let t = c.args.t in
+    let e : length t.numbers ≡ 8 = search rules in
+    (λ j. answer_row c.args.own (c.unwrap_or-near.ensures j) t.place t.count (eight 0 t.numbers e j))

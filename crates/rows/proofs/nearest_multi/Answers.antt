@@ -1,20 +1,20 @@
 use native.Mathlib.Omega.{arith}
-use Rattle.rows.specs.Rows.{near_rows}
-use Rattle.rows.proofs.Reading.{near_on, near_end, rows_start}
-use borrow.Author.Rules.{rules}
+use Prim.Native.Nat.{◌+◌, ◌*◌, ◌-◌}
+use mathlib.Core.Path.{ap, ◌∙◌}
+use Rattle.std.specs.Prelude.{Option}
+use Rattle.record.specs.Widths.{live_width}
+use Rattle.rows.specs.declared.Trial.{Trial}
+use Rattle.rows.specs.Rows.{nearest_rows}
+use Rattle.rows.proofs.Reading.{near_on, near_end}
 use Rattle.rows.proofs.nearest_multi.Goals as goal
-
-pub loop-i-init : goal.loop-i-init
-loop-i-init c = let a = c.args in
-    let s = rows_start a.b a.n in
-    (search rules, λ j. near_rows (c.no_trial-d.ensures j) a.live.now (s.0 j) (s.1 j))
 
 pub loop-i-preserved : goal.loop-i-preserved
 loop-i-preserved c = let a = c.args in
     let l = c.loop-i in
-    (omega arith, near_on a.live.now a.b a.n l.i l.d _ l.invariant.1 c.loop-i-test.true _ c.nearer_at-d.ensures)
+    ap (λ (x : Option Trial). nearest_rows x a.live.now (a.b + live_width * (l.i + 1)) (a.n - (l.i + 1))) c.nearer-near.ensures
+    ∙ near_on a.live.now a.b a.n l.i l.near _ l.invariant c.loop-i-test.true
 
 pub returns : goal.returns
 returns c = let a = c.args in
     let l = c.loop-i in
-    near_end a.live.now a.b a.n l.i l.d _ l.invariant.1 (omega arith)
+    near_end a.live.now a.b a.n l.i l.near _ l.invariant (omega arith)

@@ -7,6 +7,6 @@ use Rattle.rows.proofs.put_answer.Goals as goal
 
 pub returns : goal.returns
 returns c = let a = c.args in
-    let w = c.answer_row-w.result in
-    let e : length w ≡ answer_words = search rules in
-    laid_row a.room.now _ w _ a.at answer_words c.lay.ensures e c.answer_row-w.ensures
+    let w = c.answer_row-w in
+    let e : length w.result ≡ answer_words = search (w, rules) in
+    laid_row a.room.now _ w.result _ a.at answer_words c.lay.ensures e w.ensures

@@ -1,25 +1,18 @@
-use Prim.Native.Nat.{ℕ, ◌-◌}
-use native.Mathlib.Omega.{arith}
-use mathlib.Core.Path.{◌≡◌, refl, ap, ◌∙◌}
-use Rattle.model.specs.Refusals.{every}
+use Rattle.std.proofs.Common.{ℕ, ◌≡◌, ◌+◌, ◌-◌, List, get_or, take, drop, refl, ◌∙◌, arith, length-take, get_or-take, get_or-drop}
 use Rattle.record.specs.View.{numbers_from}
-use Rattle.soundness.specs.Groups.{is_zero}
-use Rattle.soundness.proofs.Stored.{zeros_turn}
+use Rattle.soundness.proofs.Stored.{zeros_turn, zero_or}
 use Rattle.soundness.proofs.all_zero.Goals as goal
 
-pub loop-i-init : goal.loop-i-init
+pub loop-w-init : goal.loop-w-init
 unfolding numbers_from
-loop-i-init c = let a = c.args in
-    let z : 0 ≡ a.from - a.from = omega arith in
-    (omega arith, omega (arith, c.requires), ap (λ (x : ℕ). every is_zero (numbers_from a.row.now a.from x)) z)
+loop-w-init c = refl
 
-pub loop-i-preserved : goal.loop-i-preserved
-loop-i-preserved c = let l = c.loop-i in
+pub loop-w-preserved : goal.loop-w-preserved
+loop-w-preserved c = let l = c.loop-w in
     let a = c.args in
-    (omega arith, omega arith, zeros_turn a.row.now a.from l.i l.all _ c.either-all.result l.invariant.0 refl l.invariant.2 c.either-all.ensures)
-
-pub returns : goal.returns
-returns c = let l = c.loop-i in
-    let a = c.args in
-    let e : l.i ≡ a.to = omega arith in
-    l.invariant.2 ∙ ap (λ (x : ℕ). every is_zero (numbers_from a.row.now a.from (x - a.from))) e
+    let row : List ℕ = a.row.now in
+    let n : ℕ = a.to - a.from in
+    let here : List ℕ = drop a.from row in
+    let w : get_or (take n here) l.w-index 0 ≡ get_or row (a.from + l.w-index) 0 =
+    get_or-take n here l.w-index 0 (omega (arith, c.loop-w-test.true, length-take n here)) ∙ get_or-drop a.from row l.w-index 0 in
+    zeros_turn row a.from l.w-index l.all _ _ w l.invariant (zero_or l.all (get_or (take n here) l.w-index 0))

@@ -1,28 +1,23 @@
-use native.Mathlib.Omega.{arith}
-use mathlib.Core.Path.{refl, sym, ◌∙◌}
-use borrow.Author.Tests.{not-true, not-false}
-use Rattle.soundness.proofs.Turns.{behind_open, behind_on, behind_off, behind_end}
+use mathlib.Core.Path.{sym, ◌∙◌}
+use Rattle.soundness.proofs.Turns.{is_open, is_done, behind_on, behind_off, behind_end}
+use Rattle.soundness.proofs.behind_ok.Goals.{then-run_word-via-then-run_word, then-run_word-via-else-run_word+then-not-next_ok}
 use Rattle.soundness.proofs.behind_ok.Goals as goal
 
-pub loop-left-init : goal.loop-left-init
-loop-left-init c = (omega arith, omega arith, omega arith, refl)
+pub returns-then-run_word : goal.returns-then-run_word
+returns-then-run_word c = let a = c.args in
+    let l = c.loop-ahead in
+    let off = behind_off a.live.now a.runs.now a.n l.ahead _ l.invariant c.loop-ahead-test.true in
+    elim c.then-run_word.branch [
+      | then-run_word-via-then-run_word w ↦ off (is_open a.live.now a.runs.now a.n l.ahead _ l.invariant c.run_word.result c.run_word.ensures w.if-run_word.true)
+      | then-run_word-via-else-run_word+then-not-next_ok w ↦ off (is_done a.live.now a.runs.now a.n l.ahead _ l.invariant c.run_word.result c.run_word.ensures w.if-run_word.false ∙ sym w.next_ok.ensures ∙ w.if-not-next_ok.true)
+    ]
 
-pub returns-then-state-lt1 : goal.returns-then-state-lt1
-returns-then-state-lt1 c = let a = c.args in
-    let l = c.loop-left in
-    behind_open a.live.now l.b a.runs.now l.c l.left _ l.invariant.3 c.loop-left-test.true c.number_at-state.result c.number_at-state.ensures c.if-state-lt1.true
-
-pub returns-then-not-next_ok : goal.returns-then-not-next_ok
-returns-then-not-next_ok c = let a = c.args in
-    let l = c.loop-left in
-    behind_off a.live.now l.b a.runs.now l.c l.left _ l.invariant.3 c.loop-left-test.true c.number_at-state.result c.number_at-state.ensures c.if-state-lt1.false (sym c.next_ok.ensures ∙ not-true c.next_ok.result c.if-not-next_ok.true-raw)
-
-pub loop-left-preserved : goal.loop-left-preserved
-loop-left-preserved c = let a = c.args in
-    let l = c.loop-left in
-    (omega arith, omega arith, l.invariant.2, behind_on a.live.now l.b a.runs.now l.c l.left _ l.invariant.3 c.loop-left-test.true c.number_at-state.result c.number_at-state.ensures c.if-state-lt1.false (sym c.next_ok.ensures ∙ not-false c.next_ok.result c.if-not-next_ok.false-raw))
+pub loop-ahead-preserved : goal.loop-ahead-preserved
+loop-ahead-preserved c = let a = c.args in
+    let l = c.loop-ahead in
+    behind_on a.live.now a.runs.now a.n l.ahead _ l.invariant c.loop-ahead-test.true (is_done a.live.now a.runs.now a.n l.ahead _ l.invariant c.run_word.result c.run_word.ensures c.if-run_word.false ∙ sym c.next_ok.ensures ∙ c.if-not-next_ok.false)
 
 pub returns : goal.returns
 returns c = let a = c.args in
-    let l = c.loop-left in
-    behind_end a.live.now l.b a.runs.now l.c l.left _ l.invariant.3 c.loop-left-test.false
+    let l = c.loop-ahead in
+    behind_end a.live.now a.runs.now a.n l.ahead _ l.invariant c.loop-ahead-test.false

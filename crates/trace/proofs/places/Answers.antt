@@ -8,9 +8,6 @@ loop-m-init c = counting_start c.args.n (omega arith)
 pub overflow_add-k : goal.overflow_add-k
 overflow_add-k c = omega (arith, c.loop-m.invariant.sum)
 
-pub loop-m-smaller : goal.loop-m-smaller
-loop-m-smaller c = omega arith
-
 pub loop-m-preserved : goal.loop-m-preserved
 loop-m-preserved c = counting_turn c.args.n c.loop-m.k c.loop-m.m c.loop-m-test.true c.loop-m.invariant
 

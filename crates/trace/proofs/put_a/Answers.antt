@@ -12,4 +12,4 @@ overflow_add-result c = let a = c.args in
 pub returns : goal.returns
 unfolding line_a
 returns c = let a = c.args in
-    let f = c.put_told-p in let all = line_is 97 (told_from a.room.now (answer_words * a.i)) a.buffer.now c.put_byte.new.buffer f.new.buffer c.put_byte-2.new.buffer a.at f.result c.put_byte.ensures f.ensures.value f.ensures.buffer_after c.put_byte-2.ensures in record { value = all.0; buffer_after = all.1 }
+    let f = c.put_told-p in let all = line_is 97 (told_from a.room.now (answer_words * a.i)) a.buffer.now c.put_at.new.s f.new.buffer c.put_at-2.new.s a.at f.result c.put_at.ensures f.ensures.value f.ensures.buffer_after c.put_at-2.ensures in record { value = all.0; buffer_after = all.1 }

@@ -3,4 +3,4 @@ use Rattle.trace.proofs.put_e.Goals as goal
 
 pub returns : goal.returns
 unfolding line_e
-returns c = record { value = c.put_line.ensures.value; buffer_after = c.put_line.ensures.buffer_after }
+returns c = c.put_line.ensures

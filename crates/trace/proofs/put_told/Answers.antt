@@ -6,23 +6,13 @@ pub put_fields-q-requires : goal.put_fields-q-requires
 put_fields-q-requires c = omega (arith, c.requires, fields_near _ _ _ _ _ c.put_fields-p.ensures.value)
 
 pub put_fields-requires : goal.put_fields-requires
-put_fields-requires c = omega (arith, c.requires, fields_near _ _ _ _ _ c.put_fields-p.ensures.value, fields_near _ _ _ _ _ c.put_fields-q.ensures.value)
-
-pub returns-then-count-lt8 : goal.returns-then-count-lt8
-returns-then-count-lt8 c = let a = c.args in
-    let n = c.number_at-count.ensures in
-    let h = c.if-count-lt8.true in
-    let p = c.put_fields-p.ensures in
-    let q = c.put_fields-q.ensures in
-    let r = c.put_fields.ensures in let all = told_is a.room.now a.b a.at a.buffer.now (omega arith) p.value p.buffer_after q.value q.buffer_after r.value r.buffer_after in record { value = all.0; buffer_after = all.1 }
-
-pub put_fields-requires-2 : goal.put_fields-requires-2
-put_fields-requires-2 c = omega (arith, c.requires, fields_near _ _ _ _ _ c.put_fields-p.ensures.value, fields_near _ _ _ _ _ c.put_fields-q.ensures.value)
+put_fields-requires c =
+    omega (arith, c.requires, c.min-count.ensures, fields_near _ _ _ _ _ c.put_fields-p.ensures.value, fields_near _ _ _ _ _ c.put_fields-q.ensures.value)
 
 pub returns : goal.returns
 returns c = let a = c.args in
-    let n = c.number_at-count.ensures in
-    let h = c.if-count-lt8.false in
     let p = c.put_fields-p.ensures in
     let q = c.put_fields-q.ensures in
-    let r = c.put_fields-2.ensures in let all = told_is a.room.now a.b a.at a.buffer.now (omega arith) p.value p.buffer_after q.value q.buffer_after r.value r.buffer_after in record { value = all.0; buffer_after = all.1 }
+    let r = c.put_fields.ensures in
+    let all = told_is a.room.now a.b a.at a.buffer.now (omega (arith, c.number_at.ensures, c.min-count.ensures)) p.value p.buffer_after q.value q.buffer_after r.value r.buffer_after in
+    record { value = all.0; buffer_after = all.1 }

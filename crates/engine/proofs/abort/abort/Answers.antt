@@ -10,20 +10,8 @@ use Rattle.rows.specs.Rows.{raised_rows}
 use Rattle.record.specs.Widths.{live_width}
 use Rattle.engine.proofs.abort.abort.Goals as goal
 
-pub leaves-d-requires : goal.leaves-d-requires
-leaves-d-requires c = (c.requires.uncommitted_nonzero, omega (arith, c.requires.fair.live), omega arith)
-
-pub overflow_mul-d : goal.overflow_mul-d
-overflow_mul-d c = omega (arith, ap (λ (x : Course). x.first) c.leaves-d.ensures, c.requires.fair.live)
-
-pub requeues-requires : goal.requeues-requires
-requeues-requires c = omega (arith, ap (λ (x : Course). x.counts.uncommitted) c.leaves-d.ensures, ap (λ (x : Course). x.counts.waiting) c.leaves-d.ensures, c.requires.fair.live)
-
-pub shape_of-cells : goal.shape_of-cells
-shape_of-cells c = c.undo.auto.cells
-
 pub returns : goal.returns
 returns c = let a = c.args in
     let p = c.requires in
     let gone = c.requeues.ensures ∙ ap {B = Course} requeued_all c.leaves-d.ensures in
-    record { aborted = aborted a.live.now a.runs.now a.undo.now c.raise_attempts.new.live c.shift.new.row c.shift-2.new.row a.cells.now c.undo.new.cells a.c _ p.fair c.undo.ensures c.shift.ensures c.shift-2.ensures (c.raise_attempts.ensures ∙ ap (λ (x : Course). raised_rows a.live.now (live_width * x.first) x.counts.uncommitted) c.leaves-d.ensures) gone; kept = kept_at a.c _ _ gone (refl, refl, omega (arith, p.uncommitted_nonzero)) }
+    record { aborted = aborted a.live.now a.runs.now a.undo.now c.raise_attempts.new.live c.shift.new.row c.shift-2.new.row a.cells.now c.undo.new.cells a.c _ p.fair c.undo.ensures c.shift.ensures c.shift-2.ensures (c.raise_attempts.ensures ∙ ap (λ (x : Course). raised_rows a.live.now (live_width * x.first) x.counts.uncommitted) c.leaves-d.ensures) gone; kept = kept_at a.c _ _ gone (refl, refl, omega (arith, p.some_uncommitted)) }

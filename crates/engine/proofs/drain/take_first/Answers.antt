@@ -1,73 +1,69 @@
-use Rattle.model.specs.Operations.{multi}
-use Rattle.rows.specs.declared.Placement.{Placement}
-use Rattle.rows.specs.Rows.{no_trial, near_rows, one_rows}
-use Rattle.record.specs.Widths.{live_width}
-use mathlib.Core.Path.{refl}
-use Prim.Native.Nat.{ℕ, ◌+◌, ◌*◌, ◌≤◌, ◌<◌}
-use mathlib.Core.Path.{sym, ap, ◌∙◌, subst}
-use mathlib.Core.Bool.{Bool, not}
-use mathlib.Core.List.{List}
+use native.Mathlib.Omega.{arith}
+use Prim.Native.Nat.{◌*◌, ◌≤◌, ◌<◌}
+use mathlib.Core.Path.{refl, sym, ap, ◌∙◌, subst}
+use mathlib.Core.Bool.{true, not}
 use lib.Seq.{sets}
+use Rattle.std.specs.Prelude.{None}
+use Rattle.model.specs.Limits.{answer_words}
 use Rattle.record.specs.View.{numbers_from}
-use Rattle.record.specs.Widths.{run_width}
-use Rattle.rows.specs.Rows.{begun_row}
+use Rattle.record.specs.Widths.{live_width, run_width}
+use Rattle.rows.specs.declared.Placement.{Placement}
+use Rattle.rows.specs.Rows.{trial_or_none, nearest_rows, told_row, begun_row}
+use Rattle.rows.proofs.Placed.{sent_is, held_is}
 use Rattle.engine.specs.Work.{joined_by, settled_at_once}
 use Rattle.engine.specs.declared.course.Course.{Course}
-use Rattle.model.specs.Operations.{pick}
-use Rattle.engine.proofs.Staying.{kept_taking}
-use native.Mathlib.Omega.{arith}
-use Rattle.engine.proofs.Placing.{take_first_left}
+use Rattle.engine.proofs.Placing.{took_by}
 use Rattle.engine.proofs.Draining.{entries_few, small_taking}
+use Rattle.engine.proofs.drain.take_first.Goals.{in-Sent, in-Held}
 use Rattle.engine.proofs.drain.take_first.Goals as goal
-
-pub overflow_mul-c : goal.overflow_mul-c
-overflow_mul-c c = omega (arith, c.requires.small.live)
-
-pub overflow_mul-c-2 : goal.overflow_mul-c-2
-overflow_mul-c-2 c = omega (arith, c.requires.small.answers)
-
-pub sends-requires : goal.sends-requires
-sends-requires c = omega (arith, c.requires.small.answers, c.requires.waiting_nonzero)
 
 pub join-requires : goal.join-requires
 join-requires c = let p = c.requires in
     let few : c.run_fragment-r.result.entries ≤ 8 = entries_few c.args.live.now _ c.fragment_at-f.result c.args.cells.now c.run_fragment-r.result c.fragment_at-f.ensures c.run_fragment-r.ensures.value in
-    subst (λ (d : Course). (d.first ≤ 64) × (d.entries ≤ 184) × (0 < d.counts.waiting) × (d.counts.uncommitted < 16) × (c.run_fragment-r.result.entries ≤ 8)) (sym c.sends.ensures) (omega (arith, p.small.live, p.small.entries, p.waiting_nonzero, few))
+    subst (λ (d : Course). (d.entries ≤ 184) × (0 < d.counts.waiting) × (d.counts.uncommitted < 16) × (c.run_fragment-r.result.entries ≤ 8)) (sym c.sends-d.ensures) (omega (arith, p.small.entries, p.first_may_run, few))
 
-pub shape_of-cells : goal.shape_of-cells
-shape_of-cells c = c.run_fragment-r.auto.cells
-
-pub returns : goal.returns
-returns c = let p = c.requires in
-    let a = c.args in
+pub returns-then-p-clause-still_small : goal.returns-then-p-clause-still_small
+returns-then-p-clause-still_small c = let p = c.requires in
     let r = c.run_fragment-r in
-    let few : r.result.entries ≤ 8 = entries_few a.live.now _ c.fragment_at-f.result a.cells.now r.result c.fragment_at-f.ensures r.ensures.value in
-    let j = c.join in
-    let place = c.place_ran-p.ensures in
-    let answers = pick c.place_ran-p.result.sent (a.c.answers + 1) a.c.answers in
-    let moved = j.ensures.value ∙ ap {B = Course} (λ (x : Course). pick c.place_ran-p.result.joins (joined_by x r.result) (settled_at_once x)) c.sends.ensures in
-    let s = small_taking a.c j.result r.result answers c.place_ran-p.result.sent c.place_ran-p.result.joins p.small p.waiting_nonzero.0 p.waiting_nonzero.1 few refl moved in record {
-      small_2 = s.0;
-      waiting_value = s.1;
-      took = λ gone us w ws sent came wk ct top sd tk.
-          take_first_left a.live.now a.runs.now a.undo.now a.room.now a.cells.now a.c c.trial_at-own.result c.fragment_at-f.result r.result (multi c.fragment_at-f.result) c.is_last-last.result
-          (one_rows a.live.now (live_width * a.c.first) a.c.counts.uncommitted c.fragment_at-f.result.coordinator) c.place_ran-p.result.sent c.place_ran-p.result.joins c.place_ran-p.result.near answers j.new.runs j.new.undo c.put_answer_if.new.room r.new.cells j.result
-          (record {
-            tried = c.trial_at-own.ensures;
-            fragment = c.fragment_at-f.ensures;
-            ran = r.ensures.value;
-            stands = r.ensures.cells_after;
-            multi = refl;
-            last = c.is_last-last.ensures;
-            is_one = refl;
-            is_near = λ h. ap (λ (x : Placement). x.near) place ∙ ap (λ (b : Bool). pick b (near_rows no_trial a.live.now (live_width * a.c.first) a.c.counts.uncommitted) no_trial) (sym (ap (λ (x : Placement). x.sent) place) ∙ h);
-            is_ans = ap (λ (x : Placement). x.sent) place;
-            is_joins = ap (λ (x : Placement). x.joins) place;
-            count = refl;
-            is_room = c.put_answer_if.ensures;
-            is_runs = j.ensures.runs_after ∙ ap {B = List ℕ} (λ (x : Course). pick c.place_ran-p.result.joins (sets a.runs.now (run_width * x.counts.uncommitted) (begun_row (not c.place_ran-p.result.sent) c.is_last-last.result r.result)) a.runs.now) c.sends.ensures;
-            is_undo = j.ensures.undo_after ∙ ap {B = List ℕ} (λ (x : Course). pick c.place_ran-p.result.joins (sets a.undo.now (2 * x.entries) (numbers_from r.result.undo 0 (2 * r.result.entries))) a.undo.now) c.sends.ensures;
-            counts = moved;
-          }) p.small gone us w ws sent came wk ct top sd tk;
-      kept = kept_taking a.c j.result r.result answers c.place_ran-p.result.joins p.waiting_nonzero.0 moved;
-    }
+    let few : r.result.entries ≤ 8 = entries_few c.args.live.now _ c.fragment_at-f.result c.args.cells.now r.result c.fragment_at-f.ensures r.ensures.value in
+    (small_taking c.args.c c.join.result r.result _ c.match-p.sent true p.small p.first_may_run.0 p.first_may_run.1 few refl (c.join.ensures.value ∙ ap {B = Course} (λ (x : Course). joined_by x r.result) c.sends-d.ensures)).0
+
+pub returns-then-p-clause-took : goal.returns-then-p-clause-took
+returns-then-p-clause-took c = let a = c.args in
+    let r = c.run_fragment-r in
+    let f = c.fragment_at-f.result in
+    let own = c.trial_at-own.result in
+    let place = c.place_ran-p in
+    let sent = c.match-p.sent in
+    let ahead = nearest_rows None a.live.now (live_width * a.c.first) a.c.counts.uncommitted in
+    let reply = ap (λ (x : Placement). x.reply) place.ensures in
+    took_by a.live.now a.runs.now a.undo.now a.room.now a.cells.now a.c own f r.result place.result sent c.join.new.runs c.join.new.undo c.match-p.room r.new.cells c.join.result
+    c.trial_at-own.ensures c.fragment_at-f.ensures r.ensures.value r.ensures.cells_after place.ensures
+    (elim c.match-p.branch [
+      | in-Sent w ↦ (let d = sent_is _ ahead _ (sym w.in-Sent.is ∙ reply) in
+          (w.sent-is ∙ sym d.0, rw w.sent-is (w.room-is ∙ w.put_answer.ensures ∙ (λ i. sets a.room.now (answer_words * a.c.answers) (told_row own (trial_or_none (d.1 i)) (w.told.ensures i))))))
+      | in-Held w ↦ (w.sent-is ∙ sym (held_is _ ahead (sym w.in-Held.is ∙ reply)), rw w.sent-is w.room-is)
+    ])
+    (rw c.if-p.true (c.join.ensures.runs_after ∙ (λ i. sets a.runs.now (run_width * (c.sends-d.ensures i).counts.uncommitted) (begun_row (not sent) (c.is_last.ensures i) r.result))))
+    (rw c.if-p.true (c.join.ensures.undo_after ∙ (λ i. sets a.undo.now (2 * (c.sends-d.ensures i).entries) (numbers_from r.result.undo 0 (2 * r.result.entries)))))
+    (rw c.if-p.true (c.join.ensures.value ∙ ap {B = Course} (λ (x : Course). joined_by x r.result) c.sends-d.ensures))
+    c.requires.small
+
+pub returns-else-p-clause-took : goal.returns-else-p-clause-took
+returns-else-p-clause-took c = let a = c.args in
+    let r = c.run_fragment-r in
+    let f = c.fragment_at-f.result in
+    let own = c.trial_at-own.result in
+    let place = c.place_ran-p in
+    let sent = c.match-p.sent in
+    let ahead = nearest_rows None a.live.now (live_width * a.c.first) a.c.counts.uncommitted in
+    let reply = ap (λ (x : Placement). x.reply) place.ensures in
+    took_by a.live.now a.runs.now a.undo.now a.room.now a.cells.now a.c own f r.result place.result sent a.runs.now a.undo.now c.match-p.room r.new.cells c.settles.result
+    c.trial_at-own.ensures c.fragment_at-f.ensures r.ensures.value r.ensures.cells_after place.ensures
+    (elim c.match-p.branch [
+      | in-Sent w ↦ (let d = sent_is _ ahead _ (sym w.in-Sent.is ∙ reply) in
+          (w.sent-is ∙ sym d.0, rw w.sent-is (w.room-is ∙ w.put_answer.ensures ∙ (λ i. sets a.room.now (answer_words * a.c.answers) (told_row own (trial_or_none (d.1 i)) (w.told.ensures i))))))
+      | in-Held w ↦ (w.sent-is ∙ sym (held_is _ ahead (sym w.in-Held.is ∙ reply)), rw w.sent-is w.room-is)
+    ])
+    (rw c.if-p.false) (rw c.if-p.false) (rw c.if-p.false (c.settles.ensures ∙ ap {B = Course} settled_at_once c.sends-d.ensures))
+    c.requires.small

@@ -1,6 +1,9 @@
-use native.Mathlib.Omega.{arith}
-use Prim.Native.Nat.{◌≤◌}
-use mathlib.Core.Path.{◌≡◌, refl}
+use Prim.Native.Nat.{◌≤◌, ◌*◌}
+use mathlib.Core.Path.{◌≡◌, refl, ap, ◌∙◌}
+use lib.Seq.{sets}
+use Rattle.model.specs.Limits.{answer_words}
+use Rattle.operations.specs.declared.Told.{Told}
+use Rattle.rows.specs.Rows.{no_trial, told_row}
 use lib.ListN.{length}
 use Rattle.engine.proofs.Deciding.{continued, entries_by_row}
 use borrow.Author.Rules.{rules}
@@ -12,21 +15,12 @@ note_entries-entries-requires c = let r = c.continue_fragment-r in
     let few : r.result.entries ≤ 8 = entries_by_row _ r.result r.ensures.value row in
     (c.requires.fair.entries, few)
 
-pub overflow_mul-c-2 : goal.overflow_mul-c-2
-overflow_mul-c-2 c = omega (arith, c.requires.fair.answers)
-
-pub overflow_add-result : goal.overflow_add-result
-overflow_add-result c = omega (arith, c.requires.fair.answers)
-
-pub shape_of-cells : goal.shape_of-cells
-shape_of-cells c = c.continue_fragment-r.auto.cells
-
 pub returns : goal.returns
 returns c = let a = c.args in
     let p = c.requires in
     let r = c.continue_fragment-r in
     let n = c.note_entries-entries in record {
-      continued = continued a.live.now a.runs.now a.undo.now a.room.now c.run_again.new.runs n.new.undo c.put_answer.new.room a.cells.now r.new.cells a.c _ a.f c.trial_at-own.result c.no_trial-none.result n.result r.result
-          p.fair p.uncommitted_nonzero c.trial_at-own.ensures c.no_trial-none.ensures r.ensures.value r.ensures.cells_after n.ensures.value n.ensures.undo_after c.run_again.ensures c.put_answer.ensures refl;
+      continued = continued a.live.now a.runs.now a.undo.now a.room.now c.run_again.new.runs n.new.undo c.put_answer.new.room a.cells.now r.new.cells a.c _ a.f c.trial_at-own.result n.result r.result
+          p.fair p.some_uncommitted c.trial_at-own.ensures r.ensures.value r.ensures.cells_after n.ensures.value n.ensures.undo_after c.run_again.ensures (c.put_answer.ensures ∙ ap (λ (t : Told). sets a.room.now (answer_words * a.c.answers) (told_row c.trial_at-own.result no_trial t)) c.told.ensures) refl;
       kept = (refl, refl, refl);
     }
