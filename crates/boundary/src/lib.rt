@@ -13,7 +13,8 @@ ghost use Rattle.boundary.specs.Lent.{started, called_with};
 use model::Scheme;
 use record::Record;
 
-// One call by a scheme on a lent record: it is lent on where it stands, the count of answers is stored, and the number is returned.
+// One call by a scheme on a lent record: it is lent on where it stands, the count of answers is stored, and the number is returned,
+// as C takes it.
 pub(crate) fn call_on(
     scheme: Scheme,
     r: &mut Record,

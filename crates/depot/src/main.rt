@@ -182,6 +182,7 @@ fn put_answers(out: &mut [u8], from: u32, room: &[u32], count: u32) -> u32 {
     at
 }
 
+// Codes, kinds and flags are handed in as numbers, for some stand for nothing.
 fn op(code: u32, cell: u32, amount: u32) -> Op {
     Op { code, cell, amount }
 }

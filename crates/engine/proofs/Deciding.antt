@@ -15,7 +15,7 @@ use Rattle.model.specs.declared.Fragment.{Fragment}
 use Rattle.model.specs.declared.Undo.{Undo}
 use Rattle.model.proofs.Chain.{all_map, all_append, all_left, all_right}
 use Rattle.model.proofs.Running.{joined_by, run_earlier, outcome_earlier, run_few, run_numbers}
-use Rattle.operations.specs.Laid.{padded, flat, entries_of, laid}
+use Rattle.operations.specs.Laid.{padded, flat, entries_of, laid, told}
 use Rattle.operations.specs.declared.Ran.{Ran}
 use Rattle.record.specs.Words.{all_rows, all_runs, run_words, state_word, row_of, live_rows, over}
 use Rattle.record.specs.View.{numbers_from, shifted}
@@ -95,16 +95,16 @@ first_is u = refl
 
 module _ (live runs undo room runs' undo' room' : List ℕ) (cells cells' : Cells) (c c' : Course) (f : Fragment) (own : Trial) (entries : ℕ) (r : Ran) (fair : Fair c) (some : 0 < c.counts.uncommitted)
     (en : own ≡ trial_at live (live_width * c.first)) (er : r ≡ laid (run f cells [])) (ec : cells' ≡ (run f cells (entries_of undo 0 c.entries)).cells)
-    (een : entries ≡ pick (eqb r.place 0) (c.entries + r.entries) 0)
-    (eu : undo' ≡ pick (eqb r.place 0) (sets undo (2 * c.entries) (numbers_from r.undo 0 (2 * r.entries))) (shifted undo (2 * c.entries) (2 * c.entries)))
-    (eruns : runs' ≡ sets runs 0 (again_row runs f r.place entries)) (eroom : room' ≡ with_answer c.answers own no_trial r room)
+    (een : entries ≡ pick (eqb r.told.place 0) (c.entries + r.entries) 0)
+    (eu : undo' ≡ pick (eqb r.told.place 0) (sets undo (2 * c.entries) (numbers_from r.undo 0 (2 * r.entries))) (shifted undo (2 * c.entries) (2 * c.entries)))
+    (eruns : runs' ≡ sets runs 0 (again_row runs f r.told.place entries)) (eroom : room' ≡ with_answer c.answers own no_trial r room)
     (ecounts : c' ≡ record { counts = c.counts; first = c.first; entries = entries; answers = c.answers + 1 }) where
   pub continued : Continued live runs undo room cells c f runs' undo' room' cells' c'
-  unfolding laid
+  unfolding laid told
   continued gone u ws sent came k kn within few-ran eight few = (
     record {
       at_live = k.at_live;
-      at_runs = run_over [] u [] runs 0 tt kn refl (runs_ground came) k.at_runs v (again_row runs f r.place entries) runs' (omega arith) run_is eruns;
+      at_runs = run_over [] u [] runs 0 tt kn refl (runs_ground came) k.at_runs v (again_row runs f r.told.place entries) runs' (omega arith) run_is eruns;
       at_undo = undo_is;
       at_room = room_is;
       first = k.first ∙ sym (ap (λ (x : Course). x.first) ecounts);
@@ -129,8 +129,8 @@ module _ (live runs undo room runs' undo' room' : List ℕ) (cells cells' : Cell
       cells_is : cells' ≡ (run f cells u.undo).cells
       cells_is = ec ∙ ap (λ (x : List Undo). (run f cells x).cells) entries_own
 
-      place_is : r.place ≡ (run f cells []).outcome.place
-      place_is = ap (λ (x : Ran). x.place) er
+      place_is : r.told.place ≡ (run f cells []).outcome.place
+      place_is = ap (λ (x : Ran). x.told.place) er
 
       tells : (run f cells u.undo).outcome ≡ (run f cells []).outcome
       tells = outcome_earlier f cells u.undo
@@ -170,15 +170,15 @@ module _ (live runs undo room runs' undo' room' : List ℕ) (cells cells' : Cell
               ∙ shift_undo came (flat (u.undo ++ [])) [] (2 * c.entries) c.entries size (ap length (append-nil (flat (u.undo ++ []))) ∙ size) within.1
               ∙ ap (λ (x : List Undo). over (undo_ground came) (flat x)) (sym (undo_by false e))
 
-      run_is : again_row runs f r.place entries ≡ run_words v
-      run_is = again_words u f (run f cells u.undo) (min (get_or runs 0 0) 7 + 1) (state_word_after (last f) r.place) entries ran_is state_is entries_is
+      run_is : again_row runs f r.told.place entries ≡ run_words v
+      run_is = again_words u f (run f cells u.undo) (min (get_or runs 0 0) 7 + 1) (state_word_after (last f) r.told.place) entries ran_is state_is entries_is
         where
           ran_is : min (get_or runs 0 0) 7 + 1 ≡ u.ran + 1
           ran_is =
               let h : get_or runs 0 0 ≡ u.ran = run_word [] u [] runs 0 tt kn refl (runs_ground came) k.at_runs 0 (omega arith) ∙ first_is u in
               omega (arith, h, few-ran)
 
-          state_is : state_word_after (last f) r.place ≡ state_word (state_after f (run f cells u.undo).outcome)
+          state_is : state_word_after (last f) r.told.place ≡ state_word (state_after f (run f cells u.undo).outcome)
           state_is = ap (state_word_after (last f)) place_is ∙ state_word_lem f (run f cells []).outcome (last f) refl ∙ ap (λ (o : Outcome). state_word (state_after f o)) (sym tells)
 
       own_is : own ≡ trial_of (row_of u)

@@ -21,10 +21,11 @@ use Rattle.record.specs.Words.{all_rows, row_of, live_rows, over}
 use Rattle.engine.specs.declared.course.Course.{Course}
 use Rattle.engine.specs.Work.{Ground, runs_ground, undo_ground, Work, held_under, ReleasedOne, Fronted, with_answers}
 use Rattle.engine.proofs.Settling.{live_split, trial_there, multi_at_lem, coordinator_at, held_room, held_count, not_held, sent_runs}
-use Rattle.rows.specs.Rows.{trial_at, no_trial, holds_row, held_row, multi_row, same_row, near_row, sent_row}
+use Rattle.rows.specs.Rows.{trial_at, no_trial, holds_row, held_row, same_row, near_row, sent_row}
 use Rattle.rows.specs.declared.Trial.{Trial}
 use Rattle.rows.proofs.Reading.{trial_of}
 use Rattle.record.specs.Fitting.{Eight, Fit, Known}
+use Rattle.record.specs.View.{multi_at}
 use Rattle.record.specs.Widths.{live_width, run_width}
 
 sent_rows : (P : List Uncommitted) (u : Uncommitted) (us : List Uncommitted) (ws : List Waiting) → live_rows (P ++ sent u ∷ us) ws ≡ live_rows (P ++ u ∷ us) ws
@@ -70,14 +71,14 @@ module _ (live runs undo room : List ℕ) (c : Course) (gone : List Waiting) (P 
 -- One of them
 
 -- a single is passed over
-pub one_single : (live runs room : List ℕ) (c : Course) (i : ℕ) (near : Trial) → multi_row live (live_width * (c.first + i)) ≡ false → ReleasedOne live runs room c i near runs room c
+pub one_single : (live runs room : List ℕ) (c : Course) (i : ℕ) (near : Trial) → multi_at live (live_width * (c.first + i)) ≡ false → ReleasedOne live runs room c i near runs room c
 one_single live runs room c i near h undo gone P u us ws sent' came w k ei =
     let m : multi u.first ≡ false = sym (multi_at_lem live runs undo room c gone P u us ws sent' came w i ei) ∙ h in
     subst (λ (b : Bool). Work live runs undo room c gone (P ++ pick b (sent u) u ∷ us) ws (sent' ++ pick b (held_under near u) []) came) (sym m)
     (subst (λ (x : List Answer). Work live runs undo room c gone (P ++ u ∷ us) ws x came) (sym (append-nil sent')) w)
 
 -- a multi that holds nothing stays as it is
-pub one_empty : (live runs room room' : List ℕ) (c : Course) (i : ℕ) (own near : Trial) → multi_row live (live_width * (c.first + i)) ≡ true → holds_row runs (run_width * i) ≡ false
+pub one_empty : (live runs room room' : List ℕ) (c : Course) (i : ℕ) (own near : Trial) → multi_at live (live_width * (c.first + i)) ≡ true → holds_row runs (run_width * i) ≡ false
     → room' ≡ pick (holds_row runs (run_width * i)) (sets room (answer_words * c.answers) (held_row runs (run_width * i) own near)) room → ReleasedOne live runs room c i near runs room' c
 one_empty live runs room room' c i own near h none er undo gone P u us ws sent' came w k ei =
     let m : multi u.first ≡ true = sym (multi_at_lem live runs undo room c gone P u us ws sent' came w i ei) ∙ h in
@@ -89,7 +90,7 @@ one_empty live runs room room' c i own near h none er undo gone P u us ws sent' 
     (subst (λ (x : List Answer). Work live runs undo room' c gone (P ++ u ∷ us) ws x came) (sym (append-nil sent'))
     (subst (λ (x : List ℕ). Work live runs undo x c gone (P ++ u ∷ us) ws sent' came) (sym er') w))))
 
-pub one_held : (live runs room runs' room' : List ℕ) (c c' : Course) (i : ℕ) (own near : Trial) (a : ℕ) → c.answers < 64 → multi_row live (live_width * (c.first + i)) ≡ true → own ≡ trial_at live (live_width * (c.first + i))
+pub one_held : (live runs room runs' room' : List ℕ) (c c' : Course) (i : ℕ) (own near : Trial) (a : ℕ) → c.answers < 64 → multi_at live (live_width * (c.first + i)) ≡ true → own ≡ trial_at live (live_width * (c.first + i))
     → a ≡ pick (holds_row runs (run_width * i)) (c.answers + 1) c.answers
     → room' ≡ pick (holds_row runs (run_width * i)) (sets room (answer_words * c.answers) (held_row runs (run_width * i) own near)) room → runs' ≡ sets runs (run_width * i) (sent_row runs (run_width * i)) → c' ≡ with_answers a c
     → ReleasedOne live runs room c i near runs' room' c'

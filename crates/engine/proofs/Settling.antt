@@ -16,13 +16,13 @@ use Rattle.model.proofs.Chain.{all_map, all_left, all_right}
 use Rattle.operations.specs.Laid.{padded, flat}
 use Rattle.operations.proofs.Turns.{length-padded}
 use Rattle.record.specs.Words.{row_words, all_rows, state_word, reply_word, held_outcome, outcome_words, run_words, all_runs, row_of, live_rows, over}
-use Rattle.record.specs.View.{numbers_from, shifted}
+use Rattle.record.specs.View.{multi_at, numbers_from, shifted}
 use Rattle.record.proofs.Rows.{relay_over, shift_over, cleared_zero, length-cleared, numbers_same, numbers_whole}
 use Rattle.record.proofs.Back.{row_read, length_run, length_runs, runs_append, run_read, length-flat, flat_append, undo_append}
 use Rattle.engine.specs.declared.course.Course.{Course}
 use Rattle.engine.specs.Work.{held_under, Ground, runs_ground, undo_ground, Within, Work, Fair, stood, Standing, SettledOne, SettledTo, Singles, Fronted, Committed, left_by, with_answers}
 use Rattle.rows.specs.declared.Trial.{Trial}
-use Rattle.rows.specs.Rows.{trial_at, no_trial, holds_row, held_row, multi_row, sent_row, run_row}
+use Rattle.rows.specs.Rows.{trial_at, no_trial, holds_row, held_row, sent_row, run_row}
 use Rattle.rows.proofs.Reading.{trial_of, trial_back}
 use Rattle.rows.proofs.Rooms.{answer_row_lem, room_more}
 use Rattle.model.specs.Parts.{All}
@@ -88,7 +88,7 @@ module _ (live runs undo room : List ℕ) (c : Course) (gone : List Waiting) (P 
   pub trial_there : trial_at live (live_width * (c.first + i)) ≡ trial_of (row_of u)
   trial_there = ap (λ (l : List ℕ). trial_at l (live_width * (c.first + i))) at_live ∙ trial_back came.live ahead (row_of u) (live_rows us ws) (live_width * (c.first + i)) (all_left Eight ahead _ eights) (all_right Eight ahead _ eights).0 place
 
-  pub multi_at_lem : multi_row live (live_width * (c.first + i)) ≡ multi u.first
+  pub multi_at_lem : multi_at live (live_width * (c.first + i)) ≡ multi u.first
   unfolding row_words multi
   multi_at_lem = ap (λ (x : ℕ). eqb (x % 2) 1) (word 1 (omega arith))
 
@@ -273,10 +273,10 @@ left_fair c d e fair some ed =
 
 -- is the row of the first that is left a multi's
 front_row : (live runs undo room : List ℕ) (c : Course) (P : List Uncommitted) (u : Uncommitted) (us : List Uncommitted) (ws : List Waiting) (sent : List Answer) (came : Ground) → Standing live runs undo room c P (u ∷ us) ws sent came
-    → multi_row live (live_width * c.first) ≡ multi u.first
+    → multi_at live (live_width * c.first) ≡ multi u.first
 front_row live runs undo room c P u us ws sent came s =
     let z : live_width * c.first ≡ live_width * (0 + c.first) = omega arith in
-    ap (multi_row live) z ∙ multi_at_lem live runs undo room (stood c (P ++ u ∷ us)) [] P u us ws sent came s.work c.first s.first
+    ap (multi_at live) z ∙ multi_at_lem live runs undo room (stood c (P ++ u ∷ us)) [] P u us ws sent came s.work c.first s.first
 
 -- what the loop keeps
 abbrev pub Midway : List ℕ → List ℕ → List ℕ → Course → List ℕ → Course → Type 0
@@ -288,7 +288,7 @@ midway_start live runs room c undo P us ws sent came s =
     record { settled_ones = []; left = us; more = []; names = []; split = refl; standing = subst₂ (λ (x : List Uncommitted) (y : List Answer). Standing live runs undo room c x us ws y came) (sym (append-nil P)) (sym (append-nil sent)) s; rest = refl }
 
 module _ (live runs room₀ room : List ℕ) (c₀ c : Course) (mid : Midway live runs room₀ c₀ room c) where
-  pub midway_turn : 0 < c.counts.uncommitted → multi_row live (live_width * c.first) ≡ false → (room' : List ℕ) (c' : Course) → SettledOne live runs room c room' c' → Midway live runs room₀ c₀ room' c'
+  pub midway_turn : 0 < c.counts.uncommitted → multi_at live (live_width * c.first) ≡ false → (room' : List ℕ) (c' : Course) → SettledOne live runs room c room' c' → Midway live runs room₀ c₀ room' c'
   midway_turn some single room' c' one undo P us ws sent came s = let m = mid undo P us ws sent came s in go m.left m refl
     where
       go : (l : List Uncommitted) (m : SettledTo live runs undo room c P us ws sent came) → m.left ≡ l → SettledTo live runs undo room' c' P us ws sent came
@@ -309,10 +309,10 @@ module _ (live runs room₀ room : List ℕ) (c₀ c : Course) (mid : Midway liv
                 ∙ (λ i. record { uncommitted = (settled l).uncommitted; answers = sym (append_assoc m.more (held_by u) (settled l).answers) i; settles = sym (append_assoc m.names (u.number ∷ []) (settled l).settles) i });
           }
 
-  pub midway_end : (c.counts.uncommitted ≡ 0) ⊎ (multi_row live (live_width * c.first) ≡ true) → Singles live runs room₀ c₀ room c
+  pub midway_end : (c.counts.uncommitted ≡ 0) ⊎ (multi_at live (live_width * c.first) ≡ true) → Singles live runs room₀ c₀ room c
   midway_end stop undo P us ws sent came s = let m = mid undo P us ws sent came s in (m, by m.settled_ones m.left m.standing stop)
     where
-      by : (x l : List Uncommitted) {told : List Answer} → Standing live runs undo room c (P ++ x) l ws told came → (c.counts.uncommitted ≡ 0) ⊎ (multi_row live (live_width * c.first) ≡ true) → front (λ (u : Uncommitted). not (multi u.first)) l ≡ false
+      by : (x l : List Uncommitted) {told : List Answer} → Standing live runs undo room c (P ++ x) l ws told came → (c.counts.uncommitted ≡ 0) ⊎ (multi_at live (live_width * c.first) ≡ true) → front (λ (u : Uncommitted). not (multi u.first)) l ≡ false
       by x [] s z = refl
       by x (u ∷ l) s (inl z) = absurd (omega (arith, s.uncommitted, z))
       by x (u ∷ l) {told = told} s (inr z) = ap not (sym (front_row live runs undo room c (P ++ x) u l ws told came s) ∙ z)

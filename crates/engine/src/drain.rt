@@ -60,13 +60,7 @@ pub(crate) fn take_first(
     let p = rows::place_ran(live, record::LIVE_WIDTH * c.first, c.counts.uncommitted, f);
     let sent = match p.reply {
         Reply::Sent(near) => {
-            rows::put_answer(
-                room,
-                rows::ANSWER_WIDTH * c.answers,
-                own,
-                near,
-                rows::told(r),
-            );
+            rows::put_answer(room, rows::ANSWER_WIDTH * c.answers, own, near, r.told);
             true
         }
         Reply::Held => false,

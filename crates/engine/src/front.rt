@@ -12,12 +12,12 @@ use operations::Ran;
 // The entries of the front after one more fragment: its own behind the earlier ones, or none where it failed.
 pub(crate) fn note_entries(undo: &mut [u32], entries: u32, r: Ran) -> u32
     requires { (entries ≤ 184) × (r.entries ≤ 8) }
-    ensures value { result ≡ pick (eqb r.place 0) (entries + r.entries) 0 }
-    ensures undo_after { undo.new ≡ pick (eqb r.place 0)
+    ensures value { result ≡ pick (eqb r.told.place 0) (entries + r.entries) 0 }
+    ensures undo_after { undo.new ≡ pick (eqb r.told.place 0)
         (sets undo.old (2 * entries) (numbers_from r.undo 0 (2 * r.entries)))
         (shifted undo.old (2 * entries) (2 * entries)) }
 {
-    if r.place == 0 {
+    if r.told.place == 0 {
         rows::put_entries(undo, record::ENTRY_WIDTH * entries, r);
         entries + r.entries
     } else {
@@ -49,14 +49,8 @@ pub(crate) fn continue_front(
     let own = rows::trial_at(live, record::LIVE_WORDS * c.first as usize);
     let r = operations::continue_fragment(cells, f, undo, c.entries);
     let entries = note_entries(undo, c.entries, r);
-    rows::run_again(runs, f, r.place, entries);
-    rows::put_answer(
-        room,
-        rows::ANSWER_WIDTH * c.answers,
-        own,
-        None,
-        rows::told(r),
-    );
+    rows::run_again(runs, f, r.told.place, entries);
+    rows::put_answer(room, rows::ANSWER_WIDTH * c.answers, own, None, r.told);
     Course {
         entries,
         answers: c.answers + 1,

@@ -47,7 +47,7 @@ pub(crate) fn settle_singles(live: &[u32], runs: &[u32], room: &mut [u32], from:
 {
     let mut c = from;
     while 0 < c.counts.uncommitted
-        && !rows::is_multi_row(live, record::LIVE_WORDS * c.first as usize)
+        && !record::is_multi_at(live, record::LIVE_WORDS * c.first as usize)
     {
         c = settle_one(live, runs, room, c);
     }
@@ -69,7 +69,7 @@ pub(crate) fn release_one(
     ensures released_one { ReleasedOne live.now runs.old room.old c i (trial_or_none near) runs.new room.new result }
 {
     let at = record::LIVE_WORDS * (c.first + i) as usize;
-    if !rows::is_multi_row(live, at) {
+    if !record::is_multi_at(live, at) {
         return c;
     }
     let own = rows::trial_at(live, at);

@@ -1,4 +1,5 @@
-// The values that document 01 speaks of, as every crate passes them, and its limits. What they mean is in specs/; nothing here runs.
+// The values that document 01 speaks of, as every crate passes them, and its limits. What they mean is in specs/; nothing here runs but what tries a
+// word for a kind.
 #![tactic(auto)]
 
 ghost use Rattle.std.specs.Prelude.{◌≡◌};
@@ -27,7 +28,7 @@ pub const ANSWER_WORDS: usize = 16;
 // "29 words an event"
 pub const EVENT_WORDS: u32 = 29;
 
-// "An operation has a code, a cell and an amount v of 0 to TOP."
+// "An operation has a code, a cell and an amount v of 0 to TOP.": as it is handed in, with any word for a code.
 #[derive(Clone, Copy)]
 pub struct Op {
     pub code: u32,
@@ -35,7 +36,8 @@ pub struct Op {
     pub amount: u32,
 }
 
-// "it is stored as a fixed row of eight with a count, unused places all zero"; flags are 1 multi + 2 last.
+// "it is stored as a fixed row of eight with a count, unused places all zero"; flags are 1 multi + 2 last, in a word that may have
+// others, as any words are an event.
 #[derive(Clone, Copy)]
 pub struct Fragment {
     pub flags: u32,

@@ -246,12 +246,12 @@ module _ (os : List Op) (cs₀ cells numbers own : List ℕ) (entries i : ℕ) (
   unfolding run_from
   going_done h = ap (λ (x : List Op). run_from (suc i) x cells g.ns g.us) (sym (drop_of_length-le os {i = i} h)) ∙ g.rest
 
-  pub going_laid : (n : ℕ) → n ≡ i → record { place = 0; count = n; numbers = numbers; entries = entries; undo = own } ≡ laid (record { cells = cells; outcome = record { place = 0; numbers = g.ns }; undo = g.us })
-  unfolding laid
-  going_laid n e = λ j. record { place = 0; count = (e ∙ sym g.here) j; numbers = g.at_ns j; entries = sym g.many j; undo = g.at_us j }
+  pub going_laid : (n : ℕ) → n ≡ i → record { told = record { place = 0; count = n; numbers = numbers }; entries = entries; undo = own } ≡ laid (record { cells = cells; outcome = record { place = 0; numbers = g.ns }; undo = g.us })
+  unfolding laid told
+  going_laid n e = λ j. record { told = record { place = 0; count = (e ∙ sym g.here) j; numbers = g.at_ns j }; entries = sym g.many j; undo = g.at_us j }
 
-pub failed_laid : (cs : Cells) (p x : ℕ) → record { place = p; count = 1; numbers = x ∷ replicate 7 0; entries = 0; undo = replicate 16 0 } ≡ laid (record { cells = cs; outcome = tells p (Err x); undo = [] })
-unfolding laid padded
+pub failed_laid : (cs : Cells) (p x : ℕ) → record { told = record { place = p; count = 1; numbers = x ∷ replicate 7 0 }; entries = 0; undo = replicate 16 0 } ≡ laid (record { cells = cs; outcome = tells p (Err x); undo = [] })
+unfolding laid told padded
 failed_laid cs p x = refl
 
 -- the operations of a fragment, of a row of eight
@@ -314,22 +314,22 @@ words_next l b i o h e =
 
 -- What a run tells is what it gives, without its entries
 
-pub told_of : (R : Steps.Ran) (r : Ran) → r ≡ laid R → record { place = r.place; count = r.count; numbers = r.numbers } ≡ told R
-unfolding laid told
-told_of R r e = λ j. record { place = (e j).place; count = (e j).count; numbers = (e j).numbers }
+pub told_of : (R : Steps.Ran) (r : Ran) → r ≡ laid R → r.told ≡ told R
+unfolding laid
+told_of R r e = ap (λ (x : Ran). x.told) e
 
 -- A later fragment
 
 module _ (f : Fragment) (cs : Cells) (us : List Undo) (r : Ran) (e : r ≡ laid (run f cs [])) where
-  place_is : r.place ≡ (run f cs []).outcome.place
-  unfolding laid
-  place_is = ap (λ (x : Ran). x.place) e
+  place_is : r.told.place ≡ (run f cs []).outcome.place
+  unfolding laid told
+  place_is = ap (λ (x : Ran). x.told.place) e
 
   cells_by : (b : Bool) → eqb (run f cs []).outcome.place 0 ≡ b → (run f cs us).cells ≡ (joined_by b us (run f cs [])).cells
   cells_by b h = ap (λ (x : Steps.Ran). x.cells) (run_earlier f cs us) ∙ ap (λ (x : Bool). (joined_by x us (run f cs [])).cells) h
 
-  pub later_fine : r.place ≡ 0 → (cs' : Cells) → cs' ≡ (run f cs []).cells → cs' ≡ (run f cs us).cells
+  pub later_fine : r.told.place ≡ 0 → (cs' : Cells) → cs' ≡ (run f cs []).cells → cs' ≡ (run f cs us).cells
   later_fine z cs' h = h ∙ sym (cells_by true (eq-eqb _ 0 (sym place_is ∙ z)))
 
-  pub later_fails : (r.place ≡ 0 → ⊥) → (cs' : Cells) → cs' ≡ undone us (run f cs []).cells → cs' ≡ (run f cs us).cells
+  pub later_fails : (r.told.place ≡ 0 → ⊥) → (cs' : Cells) → cs' ≡ undone us (run f cs []).cells → cs' ≡ (run f cs us).cells
   later_fails z cs' h = h ∙ sym (cells_by false (ne_eqb _ 0 (λ k. z (place_is ∙ k))))

@@ -41,16 +41,10 @@ note_count o k = elim (writes o.code) [ true ↦ k + 1 | false ↦ k ]
 unfoldable pub note_row : Op → ℕ → ℕ → List ℕ → List ℕ
 note_row o old k row = elim (writes o.code) [ true ↦ set (set row (2 * k) o.cell) (2 * k + 1) old | false ↦ row ]
 
--- a fragment's run, in rows
-unfoldable pub laid : Steps.Ran → Ran
-laid r = record {
-  place = r.outcome.place;
-  count = length r.outcome.numbers;
-  numbers = padded 8 r.outcome.numbers;
-  entries = length r.undo;
-  undo = padded 16 (flat r.undo);
-}
-
 -- what a run tells, in a row: its entries are left out
 unfoldable pub told : Steps.Ran → Told
 told r = record { place = r.outcome.place; count = length r.outcome.numbers; numbers = padded 8 r.outcome.numbers }
+
+-- a fragment's run, in rows
+unfoldable pub laid : Steps.Ran → Ran
+laid r = record { told = told r; entries = length r.undo; undo = padded 16 (flat r.undo) }

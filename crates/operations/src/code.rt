@@ -50,7 +50,7 @@ pub struct Columns {
 }
 
 // "One table of codes says for each whether v is used, whether it may write and whether it may fail": a row for each column, in the order of the
-// codes.
+// codes: "constant rows of flags for eight operation codes", as document 01 names the form.
 const USES: [bool; 8] = [false, true, true, true, true, true, true, true];
 
 const WRITES: [bool; 8] = [false, true, true, true, false, false, true, true];

@@ -17,6 +17,7 @@ mod code;
 
 pub use code::{Code, Columns, UnknownCode};
 
+// What is asked by number answers for any word: a `Code` would take fewer.
 pub fn is_known(code: u32) -> bool
     ensures { result ≡ known code }
 {
@@ -55,7 +56,7 @@ pub fn number_at(s: &[u32], i: usize) -> u32
     s.get(i).copied().unwrap_or(0)
 }
 
-// Puts a number, or a byte, at a place of a slice, nowhere past its end.
+// Puts a number, a byte or another value that is copied at a place of a slice, nowhere past its end.
 pub fn put_at<T: Copy>(s: &mut [T], i: usize, y: T)
     ensures { s.new ≡ set s.old i y }
 {
@@ -87,7 +88,7 @@ pub fn operate_on(cells: &mut [u32], o: Op) -> Operated
     Operated { did, old }
 }
 
-// Entry k of a row of numbers. That an entry is 2 words there, its cell and its old number, is known here and in `note`.
+// Entry k of a row of numbers. That an entry is 2 words there, its cell and its old number, is known in this crate here and in `note`.
 pub(crate) fn entry_at(row: &[u32], k: usize) -> Undo
     requires { k < 2 ^ 32 }
     ensures { result ≡ entry_at row.now (2 * k) }
@@ -137,7 +138,8 @@ pub(crate) fn few_entries(row: &[u32], from: usize, n: usize) -> [Undo; 8]
     few
 }
 
-// Undoes the first `count` entries of a row, copied out a few at a time from the newest on: so there is no count that it cannot hold.
+// Undoes the first `count` entries of a row, copied out a few at a time from the newest on: so there is no count that it cannot hold. It goes by
+// eights from the end, the last turn by what is left.
 pub fn undo(cells: &mut [u32], entries: &[u32], count: u32)
     ensures { cells.new ≡ undone (entries_of entries.now 0 count) cells.old }
 {
@@ -150,14 +152,20 @@ pub fn undo(cells: &mut [u32], entries: &[u32], count: u32)
     }
 }
 
-// What a fragment's run gives, as an answer of document 01 has it: the place of failure or 0, the numbers with their count, and its own undo entries
-// with their count; unused places are zero. Where it failed, the numbers are the one that the failing operation found. `laid` holds it to these
-// words, place 0 too, and so it is no Result.
+// What a run tells, as an answer of document 01 has it: the place of failure or 0, and the numbers with their count; unused places are zero. Where it
+// failed, the numbers are the one that the failing operation found. `told` holds it to these words, place 0 too, and so it is no Result.
 #[derive(Clone, Copy, Debug, PartialEq, Eq)]
-pub struct Ran {
+pub struct Told {
     pub place: u32,
     pub count: u32,
     pub numbers: [u32; 8],
+}
+
+// What a fragment's run gives: what it tells, and its own undo entries with their count, in a row of a fixed length, since nothing is allocated;
+// unused places are zero.
+#[derive(Clone, Copy, Debug, PartialEq, Eq)]
+pub struct Ran {
+    pub told: Told,
     pub entries: u32,
     pub undo: [u32; 16],
 }
@@ -196,9 +204,11 @@ pub(crate) fn run<L: Listed>(cells: &mut [u32], list: L) -> Ran
             Err(x) => {
                 undo(cells, &own, entries as u32);
                 return Ran {
-                    place: (i + 1) as u32,
-                    count: 1,
-                    numbers: [x, 0, 0, 0, 0, 0, 0, 0],
+                    told: Told {
+                        place: (i + 1) as u32,
+                        count: 1,
+                        numbers: [x, 0, 0, 0, 0, 0, 0, 0],
+                    },
                     entries: 0,
                     undo: [0u32; 16],
                 };
@@ -206,9 +216,11 @@ pub(crate) fn run<L: Listed>(cells: &mut [u32], list: L) -> Ran
         }
     }
     Ran {
-        place: 0,
-        count: n as u32,
-        numbers,
+        told: Told {
+            place: 0,
+            count: n as u32,
+            numbers,
+        },
         entries: entries as u32,
         undo: own,
     }
@@ -243,20 +255,11 @@ pub fn continue_fragment(cells: &mut [u32], f: Fragment, earlier: &[u32], count:
     ensures cells_after { cells.new ≡ (run f cells.old (entries_of earlier.now 0 count)).cells }
 {
     let r = run_fragment(cells, f);
-    if r.place == 0 {
+    if r.told.place == 0 {
         return r;
     }
     undo(cells, earlier, count);
     r
-}
-
-// What a run tells, as an answer of document 01 has it: the place of failure or 0, and the numbers with their count; unused places are zero.
-// `told` holds it to these words, and so it is no Result.
-#[derive(Clone, Copy, Debug, PartialEq, Eq)]
-pub struct Told {
-    pub place: u32,
-    pub count: u32,
-    pub numbers: [u32; 8],
 }
 
 // The operations of the fragment whose words start at b.
@@ -289,17 +292,7 @@ pub fn run_words(cells: &mut [u32], words: &[u32], b: u32) -> Told
     ensures value { result ≡ told (run (fragment_at words.now b) cells.old []) }
     ensures cells_after { cells.new ≡ (run (fragment_at words.now b) cells.old []).cells }
 {
-    let Ran {
-        place,
-        count,
-        numbers,
-        ..
-    } = run(cells, InWords { words, b });
-    Told {
-        place,
-        count,
-        numbers,
-    }
+    run(cells, InWords { words, b }).told
 }
 
 // "flags (1 multi + 2 last)"
@@ -329,7 +322,7 @@ pub fn is_blank_op(o: Op) -> bool
     o.code == 0 && o.cell == 0 && o.amount == 0
 }
 
-// "single not last, coordinator of the wrong range", of a fragment's flags and coordinator.
+// "single not last, coordinator of the wrong range", of a fragment's flags and coordinator, which may be any words.
 #[tactic(auto, unfolding(model::specs::Operations::multi, model::specs::Operations::last))]
 pub fn is_formed_kind(flags: u32, coordinator: u32) -> bool
     ensures { result ≡ formed_kind_of flags coordinator }
@@ -341,7 +334,8 @@ pub fn is_formed_kind(flags: u32, coordinator: u32) -> bool
     }
 }
 
-// Every one of some operations is well formed.
+// Every one of some operations is well formed. This and the next are two functions, for with both walks in it `is_formed` is left unproved at
+// the limit of the search.
 pub(crate) fn ops_formed(ops: &[Op]) -> bool
     ensures { result ≡ list_all formed_op ops.now }
 {

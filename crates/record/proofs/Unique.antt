@@ -27,6 +27,8 @@ use Rattle.record.proofs.Counts.requeues.Kinds as requeues-kinds
 use Rattle.record.proofs.Counts.requeues.Reads as requeues
 use Rattle.record.proofs.attempt_at.Kinds as attempt-at-kinds
 use Rattle.record.proofs.attempt_at.Reads as attempt-at
+use Rattle.record.proofs.is_multi_at.Kinds as is-multi-at-kinds
+use Rattle.record.proofs.is_multi_at.Reads as is-multi-at
 use Rattle.record.proofs.is_finished.Kinds as is-finished-kinds
 use Rattle.record.proofs.is_finished.Reads as is-finished
 use Rattle.record.proofs.entries_owned.Kinds as entries-owned-kinds
@@ -76,6 +78,9 @@ requeues_unique κs a z z' ws ws' p q = (cc, refl)
 
 pub attempt_at_unique : Unique attempt-at-kinds.ps attempt-at-kinds.r attempt-at.Learnt
 attempt_at_unique κs a z z' ws ws' p q = (cc, refl)
+
+pub is_multi_at_unique : Unique is-multi-at-kinds.ps is-multi-at-kinds.r is-multi-at.Learnt
+is_multi_at_unique κs a z z' ws ws' p q = (cc, refl)
 
 pub start_unique : Unique start-kinds.ps start-kinds.r start.Learnt
 start_unique κs a z z' ws ws' p q = (cc, refl)

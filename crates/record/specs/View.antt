@@ -1,5 +1,5 @@
 -- What a record of any words means: `view` reads it as lists. A read past a row's end gives 0.
-use Rattle.std.specs.Prelude.{ℕ, ◌+◌, ◌*◌, eqb, get_or, replicate, take}
+use Rattle.std.specs.Prelude.{ℕ, ◌+◌, ◌*◌, ◌%◌, Bool, eqb, get_or, replicate, take}
 use mathlib.Core.List.{List, map, foldr}
 use Rattle.std.proofs.lemmas.List.Edits.{sets}
 use Rattle.model.specs.Operations.{Outcome, pick}
@@ -15,6 +15,10 @@ use Rattle.record.specs.Walk.{walk, places}
 -- the attempt of the transaction whose words start at b, the row's last word
 abbrev pub attempt_at : List ℕ → ℕ → ℕ
 attempt_at l b = get_or l (b + 28) 0
+
+-- is that transaction a multi: the first of its flags
+abbrev pub multi_at : List ℕ → ℕ → Bool
+multi_at l b = eqb (get_or l (b + 1) 0 % 2) 1
 
 -- what stands in the row that starts at b
 abbrev pub row_at : List ℕ → ℕ → Waiting

@@ -10,7 +10,7 @@ ghost use Rattle.model.specs.Transactions.{finished};
 ghost use Rattle.record.specs.Words.{row_words, pack};
 ghost use Rattle.record.specs.Events.{event_of, words_of};
 ghost use Rattle.record.specs.Start.{fresh_of};
-ghost use Rattle.record.specs.View.{op_at, fragment_at, attempt_at, entries_from, numbers_from, shifted, state_of};
+ghost use Rattle.record.specs.View.{op_at, fragment_at, attempt_at, multi_at, entries_from, numbers_from, shifted, state_of};
 ghost use Rattle.record.specs.Ends.{capped, ends_at, largest_at, largest_by};
 
 use model::{Event, Fragment, Kind, Op};
@@ -69,7 +69,7 @@ pub struct Counts {
 
 // How the queues' ends move. The live ones stand in one row in number order, so that no row moves with them.
 impl Counts {
-    // an event is accepted: a fragment with a new number is the largest accepted then
+    // an event is accepted: a fragment with a new number is the largest accepted then; of any word for a kind, as `largest_by` has it
     pub fn accepts(self, kind: u32, number: u32) -> Counts
         ensures { result ≡ largest_at self (largest_by kind number self.largest) }
     {
@@ -127,7 +127,8 @@ impl Counts {
 
 // "cell count, largest number accepted, uncommitted queue (at most 16), waiting queue, undo list": the live transactions stand in one row in
 // number order, the uncommitted ones first; beside each of those a run; the undo entries of all of them in queue order, oldest first. Any words are a
-// record: which of them are sound is asked by each call.
+// record: which of them are sound is asked by each call. Rows of a fixed length with counts beside them, since nothing is allocated and C lays out
+// the same.
 #[repr(C)]
 #[derive(Clone, Copy)]
 pub struct Record {
@@ -241,6 +242,13 @@ pub fn attempt_at(row: &[u32], b: u32) -> u32
     operations::number_at(row, b as usize + OPS_END)
 }
 
+// Whether the transaction whose words start at a place is a multi: a live one's in its row, or an event's behind its kind.
+pub fn is_multi_at(row: &[u32], at: usize) -> bool
+    ensures { result ≡ multi_at row.now at }
+{
+    operations::number_at(row, at.saturating_add(1)) % 2 == 1
+}
+
 // How many undo entries the first n runs own together.
 pub fn entries_owned(runs: &[u32], n: u32) -> usize
     ensures { result ≡ entries_from runs.now 0 n }
@@ -252,7 +260,7 @@ pub fn entries_owned(runs: &[u32], n: u32) -> usize
     sum
 }
 
-// The 29 words of a live transaction. They are named one by one: made from their place alone (`from_fn`) each would choose among seven fields.
+// The 29 words of a live transaction. They are named one by one: made from their place alone (`from_fn`) each would choose among eight fields.
 pub fn row_words(number: u32, attempt: u32, f: Fragment) -> [u32; LIVE_WORDS]
     ensures { result ≡ row_words number attempt f }
 {

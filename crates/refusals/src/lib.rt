@@ -154,7 +154,7 @@ pub(crate) fn known_row(lives: bool, fresh: bool, front: bool) -> Result<(), Ref
 pub(crate) fn is_foreign(live: &[u32], event: &[u32]) -> bool
     ensures { result ≡ foreign live.now (event_of event.now).fragment }
 {
-    operations::number_at(event, 2) % 2 != 1
+    !record::is_multi_at(event, 1)
         || operations::number_at(live, 2) != operations::number_at(event, 3)
 }
 

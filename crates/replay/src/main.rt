@@ -29,7 +29,8 @@ fn take_word(rt: &impl Env, word: &mut [u8; WORD]) -> usize
     }
 }
 
-// Reads until the buffer is full, the input ends or a read fails, and answers how many bytes it put at the start of the buffer.
+// Reads until the buffer is full, the input ends or a read fails, and answers how many bytes it put at the start of the buffer. It goes on by what
+// a read gives, so that no `for` knows its turns.
 fn read_full(input: &mut impl Read, bytes: &mut [u8]) -> usize
     ensures in_bounds { result ≤ length bytes.new }
     ensures is_prefix { result ≡ length (take result bytes.new) }
@@ -44,7 +45,7 @@ fn read_full(input: &mut impl Read, bytes: &mut [u8]) -> usize
     done
 }
 
-// Writes the text, a buffer of it at a time; stops where a write fails.
+// Writes the text, a buffer of it at a time; stops where a write fails, or with the part that ends the text, whose length each part tells.
 fn write_listing<W: Write>(output: &mut W, word: &[u8], bytes: &[u8]) -> io::Result<()>
     ensures { OnOk result (Appends (W.contents output.old) (W.contents output.new) (listing_of word.now bytes.now)) }
 {

@@ -11,7 +11,7 @@ use lib.Seq.{sets}
 use Rattle.model.specs.Operations.{pick, multi}
 use Rattle.model.specs.Transactions.{Waiting}
 use Rattle.model.specs.Refusals.{every}
-use Rattle.record.specs.View.{fragment_at, waiting_of, numbers_from}
+use Rattle.record.specs.View.{fragment_at, multi_at, waiting_of, numbers_from}
 use Rattle.model.specs.Parts.{All}
 use Rattle.record.specs.Words.{all_rows, over}
 use Rattle.record.specs.Fitting.{Eight}
@@ -22,7 +22,7 @@ use Rattle.rows.specs.declared.Trial.{Trial}
 use Rattle.std.specs.Prelude.{Option, Some, None}
 use Rattle.operations.specs.declared.Told.{Told}
 use Rattle.std.specs.List.{list_all, range_with_len}
-use Rattle.rows.specs.Rows.{trial_at, trial_or_none, told_row, held_row, held_told, multi_row, same_row, one_rows, near_row, near_rows, nearer_row, nearest_rows}
+use Rattle.rows.specs.Rows.{trial_at, trial_or_none, told_row, held_row, held_told, same_row, one_rows, near_row, near_rows, nearer_row, nearest_rows}
 use Rattle.record.specs.Widths.{live_width}
 
 -- what a run at place b holds is told so
@@ -64,7 +64,7 @@ module _ (l : List ℕ) (b n i : ℕ) (d whole : Option Trial) (inv : nearest_ro
 
 -- the same by trials, none of which has number 0
 pub near_by : (l : List ℕ) (b : ℕ) (d : Option Trial) → trial_or_none (nearer_row l b d) ≡ near_row l b (trial_or_none d)
-near_by l b d = go (multi_row l b)
+near_by l b d = go (multi_at l b)
   where
     go : (m : Bool) → trial_or_none (pick m (Some (trial_at l b)) d) ≡ pick m (trial_at l b) (trial_or_none d)
     go true = refl

@@ -99,6 +99,6 @@ state_word_lem f o la e = ap (λ (x : Bool). state_word_after x o.place) e ∙ g
     go false b = refl
 
 pub begun_words : (w : Waiting) (R : Steps.Ran) (r : Ran) (la held : Bool) → r ≡ laid R → la ≡ last w.fragment → begun_row held la r ≡ run_words (begun w R (pick held (Held R.outcome) Sent))
-unfolding laid run_words padded
-begun_words w R r la true er el = (λ i. run_row 1 (state_word_after la (er i).place) 1 (er i).entries (er i).place (er i).count (er i).numbers) ∙ ap {B = List ℕ} (λ (s : ℕ). run_row 1 s 1 (length R.undo) R.outcome.place (length R.outcome.numbers) (padded 8 R.outcome.numbers)) (state_word_lem w.fragment R.outcome la el)
-begun_words w R r la false er el = (λ i. run_row 1 (state_word_after la (er i).place) 0 (er i).entries 0 0 (replicate 8 0)) ∙ ap {B = List ℕ} (λ (s : ℕ). run_row 1 s 0 (length R.undo) 0 0 (replicate 8 0)) (state_word_lem w.fragment R.outcome la el)
+unfolding laid told run_words padded
+begun_words w R r la true er el = (λ i. run_row 1 (state_word_after la (er i).told.place) 1 (er i).entries (er i).told.place (er i).told.count (er i).told.numbers) ∙ ap {B = List ℕ} (λ (s : ℕ). run_row 1 s 1 (length R.undo) R.outcome.place (length R.outcome.numbers) (padded 8 R.outcome.numbers)) (state_word_lem w.fragment R.outcome la el)
+begun_words w R r la false er el = (λ i. run_row 1 (state_word_after la (er i).told.place) 0 (er i).entries 0 0 (replicate 8 0)) ∙ ap {B = List ℕ} (λ (s : ℕ). run_row 1 s 0 (length R.undo) 0 0 (replicate 8 0)) (state_word_lem w.fragment R.outcome la el)

@@ -1,8 +1,6 @@
 -- Any two outcomes that the contracts of this crate's public functions allow are equal: what each returns and leaves in what was lent to it.
 use mathlib.Core.Path.{◌≡◌, refl}
 use Rattle.model.proofs.Unique.{Unique}
-use Rattle.rows.proofs.is_multi_row.Kinds as is-multi-row-kinds
-use Rattle.rows.proofs.is_multi_row.Reads as is-multi-row
 use Rattle.rows.proofs.may_take.Kinds as may-take-kinds
 use Rattle.rows.proofs.may_take.Reads as may-take
 use Rattle.rows.proofs.same_coordinator.Kinds as same-coordinator-kinds
@@ -17,8 +15,6 @@ use Rattle.rows.proofs.place_ran.Kinds as place-ran-kinds
 use Rattle.rows.proofs.place_ran.Reads as place-ran
 use Rattle.rows.proofs.run_alone.Kinds as run-alone-kinds
 use Rattle.rows.proofs.run_alone.Reads as run_alone
-use Rattle.rows.proofs.told.Kinds as told-kinds
-use Rattle.rows.proofs.told.Reads as told
 use Rattle.rows.proofs.put_answer.Kinds as put-answer-kinds
 use Rattle.rows.proofs.put_answer.Reads as put-answer
 use Rattle.rows.proofs.put_held.Kinds as put-held-kinds
@@ -31,9 +27,6 @@ use Rattle.rows.proofs.put_run.Kinds as put-run-kinds
 use Rattle.rows.proofs.put_run.Reads as put-run
 use Rattle.rows.proofs.put_entries.Kinds as put-entries-kinds
 use Rattle.rows.proofs.put_entries.Reads as put_entries
-
-pub is_multi_row_unique : Unique is-multi-row-kinds.ps is-multi-row-kinds.r is-multi-row.Learnt
-is_multi_row_unique κs a z z' ws ws' p q = (cc, refl)
 
 pub may_take_unique : Unique may-take-kinds.ps may-take-kinds.r may-take.Learnt
 may_take_unique κs a z z' ws ws' p q = (cc, refl)
@@ -54,9 +47,6 @@ raise_attempts_unique κs a z z' ws ws' p q =
 
 pub place_ran_unique : Unique place-ran-kinds.ps place-ran-kinds.r place-ran.Learnt
 place_ran_unique κs a z z' ws ws' p q = (cc, refl)
-
-pub told_unique : Unique told-kinds.ps told-kinds.r told.Learnt
-told_unique κs a z z' ws ws' p q = (cc, refl)
 
 pub put_answer_unique : Unique put-answer-kinds.ps put-answer-kinds.r put-answer.Learnt
 put_answer_unique κs a z z' ws ws' p q =

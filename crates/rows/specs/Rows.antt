@@ -1,5 +1,5 @@
 -- What is read off one row and what is laid in one: the words of an answer and of a run, and of the rows of live transactions.
-use Rattle.std.specs.Prelude.{ℕ, ◌+◌, ◌*◌, ◌-◌, ◌%◌, min, Bool, true, false, not, ◌&&◌, ◌||◌, leb, eqb, get_or, replicate, set}
+use Rattle.std.specs.Prelude.{ℕ, ◌+◌, ◌*◌, ◌-◌, min, Bool, true, false, not, ◌&&◌, ◌||◌, leb, eqb, get_or, replicate, set}
 use Rattle.std.specs.Prelude.{Option, Some, None, is_some, unwrap_or}
 use mathlib.Core.List.{List, [], ◌∷◌, ◌++◌, foldl}
 use Rattle.std.proofs.lemmas.List.Edits.{sets}
@@ -19,7 +19,7 @@ use Rattle.rows.specs.declared.Reply.TheVariants.{Held, Sent}
 use Rattle.rows.specs.declared.Placement.{Placement}
 use Rattle.record.specs.Walk.{places}
 use Rattle.record.specs.Ends.{capped}
-use Rattle.record.specs.View.{attempt_at, numbers_from}
+use Rattle.record.specs.View.{attempt_at, multi_at, numbers_from}
 use Rattle.record.specs.Widths.{live_width, run_width}
 
 -- the transaction whose row starts at b, in its attempt; and none
@@ -40,10 +40,6 @@ answer_row t d p c ns = t.number ∷ d.number ∷ p ∷ c ∷ ns ++ (t.attempt �
 -- the same by what a run tells; and one in its first attempt, whose row starts at b
 abbrev pub told_row : Trial → Trial → Told → List ℕ
 told_row t d r = answer_row t d r.place r.count r.numbers
-
--- what the answer to a run tells
-abbrev pub told_by : Ran → Told
-told_by r = record { place = r.place; count = r.count; numbers = r.numbers }
 
 abbrev pub first_trial : List ℕ → ℕ → Trial
 first_trial l b = record { number = get_or l b 0; attempt = 1 }
@@ -72,22 +68,19 @@ state_word_after last place = pick (eqb place 0) (pick last 1 0) 2
 -- the run of one that ran its first fragment: its answer held or sent
 abbrev pub begun_row : Bool → Bool → Ran → List ℕ
 begun_row held last r =
-    pick held (run_row 1 (state_word_after last r.place) 1 r.entries r.place r.count r.numbers)
-    (run_row 1 (state_word_after last r.place) 0 r.entries 0 0 (replicate 8 0))
+    pick held (run_row 1 (state_word_after last r.told.place) 1 r.entries r.told.place r.told.count r.told.numbers)
+    (run_row 1 (state_word_after last r.told.place) 0 r.entries 0 0 (replicate 8 0))
 
--- a live transaction's row at place b: a multi's; a single's, or with coordinator k; its transaction if it is a multi's, else d
-abbrev pub multi_row : List ℕ → ℕ → Bool
-multi_row l b = eqb (get_or l (b + 1) 0 % 2) 1
-
+-- a live transaction's row at place b: a single's, or with coordinator k; its transaction if it is a multi's, else d
 abbrev pub same_row : List ℕ → ℕ → ℕ → Bool
-same_row l b k = pick (multi_row l b) (eqb (get_or l (b + 2) 0) k) true
+same_row l b k = pick (multi_at l b) (eqb (get_or l (b + 2) 0) k) true
 
 abbrev pub near_row : List ℕ → ℕ → Trial → Trial
-near_row l b d = pick (multi_row l b) (trial_at l b) d
+near_row l b d = pick (multi_at l b) (trial_at l b) d
 
 -- the same by options
 abbrev pub nearer_row : List ℕ → ℕ → Option Trial → Option Trial
-nearer_row l b d = pick (multi_row l b) (Some (trial_at l b)) d
+nearer_row l b d = pick (multi_at l b) (Some (trial_at l b)) d
 
 -- what the drain decides of one that ran: is it answered now, does it join the uncommitted ones
 abbrev pub answered_now : ℕ → Bool → Bool → Bool
@@ -148,4 +141,4 @@ again_row runs f place entries = run_row (min (get_or runs 0 0) 7 + 1) (state_wo
 
 -- one answer more in the room
 abbrev pub with_answer : ℕ → Trial → Trial → Ran → List ℕ → List ℕ
-with_answer a t d r room = sets room (answer_words * a) (answer_row t d r.place r.count r.numbers)
+with_answer a t d r room = sets room (answer_words * a) (told_row t d r.told)

@@ -6,7 +6,7 @@ ghost use Rattle.record.specs.Widths.{run_width};
 ghost use Rattle.model.specs.Steps.{run};
 ghost use Rattle.operations.specs.Laid.{told};
 ghost use Rattle.record.specs.View.{fragment_at, numbers_from};
-ghost use Rattle.rows.specs.Rows.{placement_row, raised_row, raised_rows, trial_at, first_trial, no_trial, trial_or_none, told_row, told_by, run_by, state_number, state_word_after, begun_row, same_row, one_rows, nearer_row, nearest_rows, answered_now, may_take_row, holds_row, held_row, held_told, sent_row, again_row, multi_row};
+ghost use Rattle.rows.specs.Rows.{placement_row, raised_row, raised_rows, trial_at, first_trial, no_trial, trial_or_none, told_row, run_by, state_number, state_word_after, begun_row, same_row, one_rows, nearer_row, nearest_rows, answered_now, may_take_row, holds_row, held_row, held_told, sent_row, again_row};
 ghost use Rattle.std.proofs.lemmas.List.Edits.{sets};
 ghost use Rattle.model.specs.Operations.{multi, pick};
 
@@ -38,19 +38,6 @@ pub fn trial_at(live: &[u32], at: usize) -> Trial
     Trial {
         number: operations::number_at(live, at),
         attempt: word_at(live, at, record::OPS_END),
-    }
-}
-
-// What the answer to a fragment's run tells: its entries are left out.
-pub fn told(r: Ran) -> Told
-    ensures { result ≡ told_by r }
-{
-    // an array goes from field to field by a variable: straight, the check gives no proof yet
-    let numbers = r.numbers;
-    Told {
-        place: r.place,
-        count: r.count,
-        numbers,
     }
 }
 
@@ -96,7 +83,8 @@ pub(crate) fn state_after(last: bool, place: u32) -> State
     }
 }
 
-// A run: how many fragments ran, the word of the state, how many entries it owns, and the answer that it holds, none where that was sent.
+// A run: how many fragments ran, the word of the state, how many entries it owns, and the answer that it holds, none where that was sent. The state
+// stays a word, which `mark_sent` passes on whatever it stands for (`sent_row`).
 #[derive(Clone, Copy)]
 pub(crate) struct Run {
     pub ran: u32,
@@ -145,18 +133,11 @@ impl Run {
     }
 }
 
-// A row of the live row that is a multi's.
-pub fn is_multi_row(live: &[u32], at: usize) -> bool
-    ensures { result ≡ multi_row live.now at }
-{
-    word_at(live, at, 1) % 2 == 1
-}
-
 // A row of the live row that is a single's, or has coordinator k.
 pub fn same_coordinator(live: &[u32], at: usize, k: u32) -> bool
     ensures { result ≡ same_row live.now at k }
 {
-    !is_multi_row(live, at) || word_at(live, at, 2) == k
+    !record::is_multi_at(live, at) || word_at(live, at, 2) == k
 }
 
 // "all uncommitted multis .. have one coordinator (singles do not count)": k, over n rows of the live row from place b on.
@@ -170,7 +151,7 @@ pub(crate) fn one_coordinator(live: &[u32], b: u32, n: u32, k: u32) -> bool
 pub fn nearer(live: &[u32], at: usize, d: Option<Trial>) -> Option<Trial>
     ensures { result ≡ nearer_row live.now at d }
 {
-    if is_multi_row(live, at) {
+    if record::is_multi_at(live, at) {
         Some(trial_at(live, at))
     } else {
         d
@@ -215,7 +196,8 @@ pub(crate) fn is_answered(live: &[u32], b: u32, n: u32, f: Fragment) -> bool
     n == 0 || (operations::is_multi(f) && one_coordinator(live, b, n, f.coordinator))
 }
 
-// What the drain does with the answer of one that ran: it is held, or sent now with the multi that it depends on.
+// What the drain does with the answer of one that ran: it is held, or sent now with the multi that it depends on, if there is one. Two options in one
+// another would not say which is which.
 #[derive(Clone, Copy)]
 pub enum Reply {
     Held,
@@ -261,7 +243,8 @@ pub fn may_take(scheme: Scheme, runs: &[u32], uncommitted: u32) -> bool
     record::is_finished(state)
 }
 
-// Lays an answer into the room, from a place on.
+// Lays an answer into the room, from a place on. Inlined, so that its words go from where they are made into the room.
+#[inline(always)]
 pub fn put_answer(room: &mut [u32], at: u32, own: Trial, near: Option<Trial>, t: Told)
     ensures { room.new ≡ sets room.old at (told_row own (trial_or_none near) t) }
 {
@@ -330,9 +313,9 @@ pub fn put_run(runs: &mut [u32], at: u32, held: bool, last: bool, r: Ran)
 {
     let begun = Run {
         ran: 1,
-        state: state_after(last, r.place) as u32,
+        state: state_after(last, r.told.place) as u32,
         entries: r.entries,
-        held: if held { Some(told(r)) } else { None },
+        held: if held { Some(r.told) } else { None },
     };
     begun.put(runs, at);
 }

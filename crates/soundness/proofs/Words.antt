@@ -11,10 +11,10 @@ use Rattle.model.specs.Operations.{Outcome, multi}
 use Rattle.model.specs.Transactions.{finished, holds}
 use Rattle.model.specs.Refusals.{every, storable, fits, is_state, is_reply}
 use Rattle.model.proofs.Tests.{both, and_left, and_right}
-use Rattle.record.specs.View.{fragment_at, state_of, reply_of, numbers_from, member_at}
+use Rattle.record.specs.View.{fragment_at, multi_at, state_of, reply_of, numbers_from, member_at}
 use Rattle.record.proofs.Rows.{length-numbers}
 use Rattle.record.proofs.Queues.{length_entries}
-use Rattle.soundness.specs.Groups.{reply_ok, run_ok, multi_at, front_ok, next_ok}
+use Rattle.soundness.specs.Groups.{reply_ok, run_ok, front_ok, next_ok}
 use Rattle.model.specs.Parts.{cell_inside, SoundOne, bad_front}
 
 -- Tests of Booleans

@@ -1,12 +1,12 @@
 -- Refusal 1 as one walk after the other asks it of a record's words, grouped by row. A read past a row's end gives 0.
-use Rattle.std.specs.Prelude.{ℕ, zero, suc, ◌+◌, ◌*◌, ◌%◌, Bool, true, ◌&&◌, ◌||◌, List, [], ◌∷◌, map, leb, ltb, eqb, get_or}
+use Rattle.std.specs.Prelude.{ℕ, zero, suc, ◌+◌, ◌*◌, Bool, true, ◌&&◌, ◌||◌, List, [], ◌∷◌, map, leb, ltb, eqb, get_or}
 use Rattle.model.specs.Limits.{most_live}
 use Rattle.model.specs.Refusals.{every, storable, formed_op}
 use Rattle.model.specs.declared.Op.{Op}
 use Rattle.model.specs.declared.Undo.{Undo}
 use Rattle.operations.specs.Laid.{entries_of}
 use Rattle.record.specs.Walk.{walk, places}
-use Rattle.record.specs.View.{op_at, fragment_at, attempt_at, entries_from}
+use Rattle.record.specs.View.{op_at, fragment_at, attempt_at, multi_at, entries_from}
 use Rattle.record.specs.Widths.{op_width, live_width, run_width}
 
 abbrev pub is_zero : ℕ → Bool
@@ -45,10 +45,6 @@ reply_ok runs c = eqb (get_or runs (c + 2) 0) 0 || eqb (get_or runs (c + 2) 0) 1
 unfoldable pub run_ok : ℕ → List ℕ → ℕ → Bool
 run_ok most runs c =
     leb 1 (get_or runs c 0) && leb (get_or runs c 0) most && leb (get_or runs (c + 1) 0) 2 && leb (get_or runs (c + 3) 0) (8 * get_or runs c 0) && reply_ok runs c
-
--- the live row that starts at b is a multi's
-abbrev pub multi_at : List ℕ → ℕ → Bool
-multi_at live b = eqb (get_or live (b + 1) 0 % 2) 1
 
 -- the front: a multi whose answer was sent
 unfoldable pub front_ok : List ℕ → List ℕ → Bool

@@ -6,7 +6,7 @@ ghost use Rattle.record.specs.Widths.{ops_end, live_width, run_width};
 ghost use Rattle.std.specs.Prelude.{◌≡◌, ◌&&◌, ◌+◌, ◌*◌, ◌-◌, ◌<◌, ◌≤◌, length, get_or};
 ghost use Rattle.model.specs.Refusals.{every, formed, blank, storable, sound};
 ghost use Rattle.record.specs.View.{fragment_at, numbers_from, view_by};
-ghost use Rattle.soundness.specs.Groups.{is_zero, ops_from, storable_op, row_ok, live_from, reply_ok, run_ok, multi_at, front_ok, next_ok, behind_from, members_ok, undo_ok};
+ghost use Rattle.soundness.specs.Groups.{is_zero, ops_from, storable_op, row_ok, live_from, reply_ok, run_ok, front_ok, next_ok, behind_from, members_ok, undo_ok};
 
 use model::Op;
 use record::{Counts, State};
@@ -167,19 +167,12 @@ pub(crate) fn run_ok(runs: &[u32], ahead: u32, most: u32) -> bool
         && reply_ok(runs, ahead)
 }
 
-// Whether the live row of the one that so many are ahead of is a multi's.
-pub(crate) fn is_multi_at(live: &[u32], ahead: u32) -> bool
-    ensures { result ≡ multi_at live.now (live_width * ahead) }
-{
-    operations::number_at(live, record::LIVE_WORDS * ahead as usize + 1) % 2 == 1
-}
-
 // "a front that is a single or holds its answer": not this one.
 #[tactic(auto, unfolding(crate::specs::Groups::front_ok))]
 pub(crate) fn front_ok(live: &[u32], runs: &[u32]) -> bool
     ensures { result ≡ front_ok live.now runs.now }
 {
-    is_multi_at(live, 0)
+    record::is_multi_at(live, 0)
         && run_word(runs, 0, record::RUN_REPLY) == record::SENT
         && run_ok(runs, 0, model::MOST_FRAGMENTS)
 }
@@ -190,7 +183,8 @@ pub(crate) fn next_ok(live: &[u32], runs: &[u32], ahead: u32) -> bool
     ensures { result ≡ next_ok live.now (live_width * ahead) runs.now (run_width * ahead) }
 {
     run_ok(runs, ahead, 1)
-        && (is_multi_at(live, ahead) || run_word(runs, ahead, record::RUN_REPLY) == record::HELD)
+        && (record::is_multi_at(live, record::LIVE_WORDS * ahead as usize)
+            || run_word(runs, ahead, record::RUN_REPLY) == record::HELD)
 }
 
 // The n uncommitted ones behind the front, "an unfinished one that is not the last" with them.

@@ -64,7 +64,7 @@ pub fn shape_of(bytes: &[u8]) -> Option<Shape>
     })
 }
 
-// The operation whose three words start at b.
+// The operation whose three words start at b: of bytes, which end anywhere, so that nothing of `record` reads them.
 pub(crate) fn op_at(bytes: &[u8], b: usize) -> Op
     requires { b < 8589934590 }
     ensures { result ≡ op_from bytes.now b }
@@ -124,7 +124,8 @@ pub(crate) fn places(n: u32) -> usize
     k
 }
 
-// A number's decimal digits from place `at` on; the place behind them.
+// A number's decimal digits from place `at` on; the place behind them. By hand: `write!` into a lent buffer needs a writer of it and a result at each
+// line, where this keeps what fits.
 pub(crate) fn put_decimal(buffer: &mut [u8], at: usize, n: u32) -> usize
     requires { at < 17179869184 }
     ensures value { result ≡ at + length (decimal n) }

@@ -41,7 +41,7 @@ returns-then-p-clause-took c = let a = c.args in
     c.trial_at-own.ensures c.fragment_at-f.ensures r.ensures.value r.ensures.cells_after place.ensures
     (elim c.match-p.branch [
       | in-Sent w ↦ (let d = sent_is _ ahead _ (sym w.in-Sent.is ∙ reply) in
-          (w.sent-is ∙ sym d.0, rw w.sent-is (w.room-is ∙ w.put_answer.ensures ∙ (λ i. sets a.room.now (answer_words * a.c.answers) (told_row own (trial_or_none (d.1 i)) (w.told.ensures i))))))
+          (w.sent-is ∙ sym d.0, rw w.sent-is (w.room-is ∙ w.put_answer.ensures ∙ (λ i. sets a.room.now (answer_words * a.c.answers) (told_row own (trial_or_none (d.1 i)) r.result.told)))))
       | in-Held w ↦ (w.sent-is ∙ sym (held_is _ ahead (sym w.in-Held.is ∙ reply)), rw w.sent-is w.room-is)
     ])
     (rw c.if-p.true (c.join.ensures.runs_after ∙ (λ i. sets a.runs.now (run_width * (c.sends-d.ensures i).counts.uncommitted) (begun_row (not sent) (c.is_last.ensures i) r.result))))
@@ -62,7 +62,7 @@ returns-else-p-clause-took c = let a = c.args in
     c.trial_at-own.ensures c.fragment_at-f.ensures r.ensures.value r.ensures.cells_after place.ensures
     (elim c.match-p.branch [
       | in-Sent w ↦ (let d = sent_is _ ahead _ (sym w.in-Sent.is ∙ reply) in
-          (w.sent-is ∙ sym d.0, rw w.sent-is (w.room-is ∙ w.put_answer.ensures ∙ (λ i. sets a.room.now (answer_words * a.c.answers) (told_row own (trial_or_none (d.1 i)) (w.told.ensures i))))))
+          (w.sent-is ∙ sym d.0, rw w.sent-is (w.room-is ∙ w.put_answer.ensures ∙ (λ i. sets a.room.now (answer_words * a.c.answers) (told_row own (trial_or_none (d.1 i)) r.result.told)))))
       | in-Held w ↦ (w.sent-is ∙ sym (held_is _ ahead (sym w.in-Held.is ∙ reply)), rw w.sent-is w.room-is)
     ])
     (rw c.if-p.false) (rw c.if-p.false) (rw c.if-p.false (c.settles.ensures ∙ ap {B = Course} settled_at_once c.sends-d.ensures))

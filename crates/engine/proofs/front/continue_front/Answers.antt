@@ -1,9 +1,5 @@
-use Prim.Native.Nat.{◌≤◌, ◌*◌}
-use mathlib.Core.Path.{◌≡◌, refl, ap, ◌∙◌}
-use lib.Seq.{sets}
-use Rattle.model.specs.Limits.{answer_words}
-use Rattle.operations.specs.declared.Told.{Told}
-use Rattle.rows.specs.Rows.{no_trial, told_row}
+use Prim.Native.Nat.{◌≤◌}
+use mathlib.Core.Path.{◌≡◌, refl}
 use lib.ListN.{length}
 use Rattle.engine.proofs.Deciding.{continued, entries_by_row}
 use borrow.Author.Rules.{rules}
@@ -21,6 +17,6 @@ returns c = let a = c.args in
     let r = c.continue_fragment-r in
     let n = c.note_entries-entries in record {
       continued = continued a.live.now a.runs.now a.undo.now a.room.now c.run_again.new.runs n.new.undo c.put_answer.new.room a.cells.now r.new.cells a.c _ a.f c.trial_at-own.result n.result r.result
-          p.fair p.some_uncommitted c.trial_at-own.ensures r.ensures.value r.ensures.cells_after n.ensures.value n.ensures.undo_after c.run_again.ensures (c.put_answer.ensures ∙ ap (λ (t : Told). sets a.room.now (answer_words * a.c.answers) (told_row c.trial_at-own.result no_trial t)) c.told.ensures) refl;
+          p.fair p.some_uncommitted c.trial_at-own.ensures r.ensures.value r.ensures.cells_after n.ensures.value n.ensures.undo_after c.run_again.ensures c.put_answer.ensures refl;
       kept = (refl, refl, refl);
     }
