@@ -44,22 +44,22 @@ rows_joined [] w ws v e = ap {B = List Waiting} (λ (x : Waiting). x ∷ ws) e
 rows_joined (u ∷ us) w ws v e = ap {B = List Waiting} (λ (x : List Waiting). row_of u ∷ x) (rows_joined us w ws v e)
 
 -- what turn's callees say: transaction and fragment of the first waiting one, its run, the tests, and what they left
-record Facts (live runs undo room : List ℕ) (cells : Cells) (c : Course) (own : Trial) (f : Fragment) (r : Ran) (m la one ans joins : Bool) (near : Trial) (a' : ℕ) (runs' undo' room' : List ℕ) (cells' : Cells) (c' : Course) : Type 0 where
-  tried : own ≡ trial_at live (live_width * (c.first + c.counts.uncommitted))
-  fragment : f ≡ fragment_at live (live_width * (c.first + c.counts.uncommitted))
-  ran : r ≡ laid (run f cells [])
-  stands : cells' ≡ (run f cells []).cells
-  multi : m ≡ multi f
-  last : la ≡ last f
-  is_one : one ≡ one_rows live (live_width * c.first) c.counts.uncommitted f.coordinator
-  is_near : ans ≡ true → near ≡ near_rows no_trial live (live_width * c.first) c.counts.uncommitted
-  is_ans : ans ≡ answered_now c.counts.uncommitted m one
-  is_joins : joins ≡ joins_queue c.counts.uncommitted m
-  count : a' ≡ pick ans (c.answers + 1) c.answers
-  is_room : room' ≡ pick ans (with_answer c.answers own near r room) room
-  is_runs : runs' ≡ pick joins (sets runs (run_width * c.counts.uncommitted) (begun_row (not ans) la r)) runs
-  is_undo : undo' ≡ pick joins (sets undo (2 * c.entries) (numbers_from r.undo 0 (2 * r.entries))) undo
-  counts : c' ≡ pick joins (joined_by (with_answers a' c) r) (settled_at_once (with_answers a' c))
+pub record Facts (live runs undo room : List ℕ) (cells : Cells) (c : Course) (own : Trial) (f : Fragment) (r : Ran) (m la one ans joins : Bool) (near : Trial) (a' : ℕ) (runs' undo' room' : List ℕ) (cells' : Cells) (c' : Course) : Type 0 where
+  pub tried : own ≡ trial_at live (live_width * (c.first + c.counts.uncommitted))
+  pub fragment : f ≡ fragment_at live (live_width * (c.first + c.counts.uncommitted))
+  pub ran : r ≡ laid (run f cells [])
+  pub stands : cells' ≡ (run f cells []).cells
+  pub multi : m ≡ multi f
+  pub last : la ≡ last f
+  pub is_one : one ≡ one_rows live (live_width * c.first) c.counts.uncommitted f.coordinator
+  pub is_near : ans ≡ true → near ≡ near_rows no_trial live (live_width * c.first) c.counts.uncommitted
+  pub is_ans : ans ≡ answered_now c.counts.uncommitted m one
+  pub is_joins : joins ≡ joins_queue c.counts.uncommitted m
+  pub count : a' ≡ pick ans (c.answers + 1) c.answers
+  pub is_room : room' ≡ pick ans (with_answer c.answers own near r room) room
+  pub is_runs : runs' ≡ pick joins (sets runs (run_width * c.counts.uncommitted) (begun_row (not ans) la r)) runs
+  pub is_undo : undo' ≡ pick joins (sets undo (2 * c.entries) (numbers_from r.undo 0 (2 * r.entries))) undo
+  pub counts : c' ≡ pick joins (joined_by (with_answers a' c) r) (settled_at_once (with_answers a' c))
 
 module _ (live runs undo room : List ℕ) (cells : Cells) (c : Course) (own : Trial) (f : Fragment) (r : Ran) (m la one ans joins : Bool) (near : Trial) (a' : ℕ) (runs' undo' room' : List ℕ) (cells' : Cells) (c' : Course)
     (facts : Facts live runs undo room cells c own f r m la one ans joins near a' runs' undo' room' cells' c') (small : Small c)
@@ -221,7 +221,7 @@ module _ (live runs undo room : List ℕ) (cells : Cells) (c : Course) (own : Tr
         eights = subst (All Eight) rows work.eights;
       }
 
-  take_first_left : Left live runs' undo' room' c' cells' sent came
+  pub take_first_left : Left live runs' undo' room' c' cells' sent came
       (record { cells = (run w.fragment cells []).cells; uncommitted = (placed us w (run w.fragment cells [])).uncommitted; waiting = ws; answers = (placed us w (run w.fragment cells [])).answers; settles = (placed us w (run w.fragment cells [])).settles })
   take_first_left = go joins refl
     where

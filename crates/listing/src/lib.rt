@@ -176,7 +176,11 @@ impl<'a> Page<'a> {
     {
         match trace::shape_of(bytes) {
             Some(shape) => self.put_run(scheme, bytes, shape),
-            None => self.put_text(b"bad trace\n"),
+            None => {
+                let mut line = [0; LINE];
+                let n = trace::put_bad(&mut line, 0);
+                self.put_text(&line[..n]);
+            }
         }
     }
 
@@ -190,7 +194,11 @@ impl<'a> Page<'a> {
     {
         match scheme_of(word) {
             Some(scheme) => self.put_lines(scheme, bytes),
-            None => self.put_text(b"bad scheme\n"),
+            None => {
+                let mut line = [0; LINE];
+                let n = trace::put_bad_scheme(&mut line, 0);
+                self.put_text(&line[..n]);
+            }
         }
     }
 }

@@ -266,6 +266,16 @@ take-least n m l e = go (leb n m) refl
     go true h = let k : n ≤ m = leb-true n m h in let z : min n m ≡ n = omega arith in ap (λ (x : ℕ). take x l) z
     go false h = let k : m < n = leb-false n m h in take_all (min n m) l (omega arith) ∙ sym (take_all n l (omega arith))
 
+pub take_places : (n : ℕ) (l : List Op) → length l ≡ 8 → take (min n 8) l ≡ take n l
+take_places n l e = take-least n 8 l e
+
+pub drop-places : (n : ℕ) (l : List Op) → length l ≡ 8 → drop (min n 8) l ≡ drop n l
+drop-places n l e = go (leb n 8) refl
+  where
+    go : (b : Bool) → leb n 8 ≡ b → drop (min n 8) l ≡ drop n l
+    go true h = let k : n ≤ 8 = leb-true n 8 h in let z : min n 8 ≡ n = omega arith in ap (λ (x : ℕ). drop x l) z
+    go false h = let k : 8 < n = leb-false n 8 h in drop_of_length-le l {i = min n 8} (omega arith) ∙ sym (drop_of_length-le l {i = n} (omega arith))
+
 pub operations_of : (f : Fragment) → length f.row ≡ 8 → take (min f.count 8) f.row ≡ operations f
 unfolding operations
 operations_of f e = take-least f.count 8 f.row e

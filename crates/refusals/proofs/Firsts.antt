@@ -1,15 +1,15 @@
 -- Laws of the first row that applies, of the numbers of live rows, and of an event's rows.
 use Prim.Native.Nat.{ℕ, zero, suc, ◌+◌, ◌*◌, ◌≤◌, ◌<◌}
 use native.Mathlib.Omega.{arith}
-use mathlib.Core.Path.{◌≡◌, refl, sym, ap, ◌∙◌}
+use mathlib.Core.Path.{◌≡◌, refl, sym, ap, ◌∙◌, subst}
 use mathlib.Core.Bool.{Bool, true, false, not, ◌&&◌, ◌||◌, true≢false}
 use mathlib.Core.List.{List, [], ◌∷◌, ◌++◌}
 use lib.Dec.{leb, ltb, eqb}
 use lib.ListN.{length, get_or}
 use borrow.Author.Tests.{eqb-true, eq-eqb, ne_eqb, le-leb, lt-leb}
 use Rattle.model.specs.Limits.{least_room, event_words}
-use Rattle.model.specs.Operations.{Cells}
-use Rattle.model.specs.Transactions.{Engine}
+use Rattle.model.specs.Operations.{Cells, pick}
+use Rattle.model.specs.Transactions.{Engine, Running, Finished, Failed, NoState, finished, failed}
 use Rattle.model.specs.Refusals.{Call, first_of, is_in, rows, refusal, sound, formed, blank, inside}
 use Rattle.std.specs.Prelude.{Result}
 use Rattle.std.specs.List.{list_any, range_with_len}
@@ -18,6 +18,7 @@ use Rattle.model.specs.declared.Kind.{Kind}
 use Rattle.model.specs.declared.UnknownKind.{UnknownKind}
 use Rattle.model.specs.declared.Event.{Event}
 use Rattle.model.specs.declared.Fragment.{Fragment}
+use Rattle.record.specs.View.{state_of}
 use Rattle.record.specs.Events.{event_of}
 use Rattle.record.proofs.Events.{kind_by}
 use Rattle.refusals.specs.Rest.{behind_first, row_numbers, arrival_rows, event_rows, shape_rows}
@@ -62,6 +63,28 @@ live_any l k i (suc n) =
     let e : live_width * (i + 1) ≡ live_width * i + live_width = omega arith in
     ap (λ (b : Bool). eqb (get_or l (live_width * i) 0) k || b) (live_any l k (i + 1) n ∙ ap (λ (p : ℕ). is_in k (row_numbers l p n)) e)
 
+-- the words of a state that is finished, or failed
+by_words : (x y : Bool) → finished (pick x Finished (pick y Failed NoState)) ≡ (x || y)
+by_words true y = refl
+by_words false true = refl
+by_words false false = refl
+
+pub finished_word : (n : ℕ) → finished (state_of n) ≡ (eqb n 1 || eqb n 2)
+finished_word n = go (eqb n 0) refl
+  where
+    go : (b : Bool) → eqb n 0 ≡ b → finished (state_of n) ≡ (eqb n 1 || eqb n 2)
+    go true e = subst (λ (x : ℕ). finished (state_of x) ≡ (eqb x 1 || eqb x 2)) (sym (eqb-true n 0 e)) refl
+    go false e = ap (λ (b : Bool). finished (pick b Running (pick (eqb n 1) Finished (pick (eqb n 2) Failed NoState)))) e ∙ by_words (eqb n 1) (eqb n 2)
+
+-- of a finished one
+pub failed_word : (n : ℕ) → finished (state_of n) ≡ true → failed (state_of n) ≡ eqb n 2
+failed_word n h = go (eqb n 1) (eqb n 2) refl refl (sym (finished_word n) ∙ h)
+  where
+    go : (x y : Bool) → eqb n 1 ≡ x → eqb n 2 ≡ y → (x || y) ≡ true → failed (state_of n) ≡ eqb n 2
+    go true y e f t = subst (λ (x : ℕ). failed (state_of x) ≡ eqb x 2) (sym (eqb-true n 1 e)) refl
+    go false true e f t = subst (λ (x : ℕ). failed (state_of x) ≡ eqb x 2) (sym (eqb-true n 2 f)) refl
+    go false false e f t = absurd (mathlib.Core.Bool.true≢false (sym t))
+
 -- rows 4 and 5 of an event, by its number and its kind
 or_false : (a : Bool) → a ≡ (a || false)
 or_false true = refl
@@ -74,7 +97,7 @@ module _ (count : ℕ) (v : Event) where
   abbrev formed_by : Bool → Bool → Bool → ℕ
   formed_by one two three = first_of ((4, not (leb 1 v.number && (one && formed f || (two || three) && blank f))) ∷ (5, one && not (inside count f)) ∷ [])
 
-  event_numberless : v.number < 1 → 4 ≡ first_of (event_rows count v)
+  pub event_numberless : v.number < 1 → 4 ≡ first_of (event_rows count v)
   event_numberless h = rw (lt-leb 1 v.number h)
 
   pub event_unknown : (v.kind ≡ 1 → ⊥) → (v.kind ≡ 2 → ⊥) → (v.kind ≡ 3 → ⊥) → 4 ≡ first_of (event_rows count v)

@@ -2,7 +2,7 @@
 use Prim.Native.Nat.{ℕ, zero, suc, ◌+◌, ◌*◌}
 use native.Mathlib.Omega.{arith}
 use mathlib.Core.Path.{◌≡◌, refl, sym, ap, ◌∙◌}
-use mathlib.Core.Bool.{Bool, true, false, not, ◌&&◌, ◌||◌}
+use mathlib.Core.Bool.{Bool, false, not, ◌&&◌, ◌||◌}
 use mathlib.Core.List.{List, [], ◌∷◌, ◌++◌, map, map-map}
 use lib.Dec.{leb, ltb, eqb, eqb-suc-zero}
 use lib.ListN.{length, get_or}
@@ -10,17 +10,14 @@ use borrow.Author.Tests.{eq-eqb, ne_eqb}
 use Rattle.model.specs.Limits.{most_fragments, most_live}
 use Rattle.model.specs.Operations.{Cells, multi}
 use Rattle.model.specs.Transactions.{Uncommitted, Waiting, finished, failed, front, numbers}
-use Rattle.model.specs.Refusals.{rows, first_of, refusal, sound, is_in}
+use Rattle.model.specs.Refusals.{rows, first_of, is_in}
 use Rattle.model.specs.declared.Event.{Event}
 use Rattle.model.specs.declared.Scheme.{Scheme}
 use Rattle.record.specs.Walk.{places}
 use Rattle.record.specs.View.{fragment_at, row_at, member_at, uncommitted_of, waiting_of, view_of}
 use Rattle.record.proofs.Queues.{length_waiting, length_uncommitted, rows_live, numbers_rows}
 use Rattle.refusals.specs.Rest.{call_of, behind_first, row_numbers, front_is, foreign, shape_rows, known_rows, fragment_rows, decision_rows}
-use Rattle.refusals.specs.Numbers.{number_of}
-use Rattle.refusals.specs.declared.Refusal.{Refusal}
-use Rattle.refusals.proofs.Firsts.{first_hit, first_miss, refused_sound}
-use Rattle.refusals.proofs.Numbers.{number_not_0}
+use Rattle.refusals.proofs.Firsts.{first_hit, first_miss}
 use Rattle.record.specs.Widths.{live_width}
 
 -- rows 8 to 14, from what they ask
@@ -56,7 +53,7 @@ module _ (live runs undo : List ℕ) where
   front_which zero n p = refl
   front_which (suc u) n p = ap {B = Bool} (λ (b : Bool). not b && eqb (get_or live 0 0) n && p (member_at live 0 runs 0 undo 0)) (sym (eqb-suc-zero u))
 
-module _ (σ : Scheme) (count largest u w : ℕ) (live runs undo : List ℕ) (v : Event) (cells : Cells) (room : List ℕ) (is_sound : sound (view_of count largest u w live runs undo) ≡ true) where
+module _ (σ : Scheme) (count largest u w : ℕ) (live runs undo : List ℕ) (v : Event) (cells : Cells) (room : List ℕ) where
   abbrev lives : Bool
   lives = is_in v.number (row_numbers live 0 (u + w))
 
@@ -67,7 +64,7 @@ module _ (σ : Scheme) (count largest u w : ℕ) (live runs undo : List ℕ) (v 
   is_first = front_is u live v.number
 
   abbrev whole : ℕ
-  whole = refusal (view_of count largest u w live runs undo) (call_of σ v cells room)
+  whole = first_of (behind_first (rows (view_of count largest u w live runs undo) (call_of σ v cells room)))
 
   abbrev of_kind : Bool → Bool → List (ℕ × Bool)
   of_kind arrives commits =
@@ -77,7 +74,7 @@ module _ (σ : Scheme) (count largest u w : ℕ) (live runs undo : List ℕ) (v 
   abbrev rest : List (ℕ × Bool)
   rest = of_kind (eqb v.kind 1) (eqb v.kind 2)
 
-  cut : first_of (shape_rows count v cells room ++ (known_rows lives fresh is_first ++ rest)) ≡ whole
+  cut : whole ≡ first_of (shape_rows count v cells room ++ (known_rows lives fresh is_first ++ rest))
   unfolding rows view_of member_at fragment_at
   cut =
       let n : ℕ = v.number in
@@ -85,24 +82,23 @@ module _ (σ : Scheme) (count largest u w : ℕ) (live runs undo : List ℕ) (v 
       let number = front_number live runs undo u n in
       let at = front_which live runs undo u n in
       let many : length (uncommitted_of live 0 runs 0 undo 0 u) + length (waiting_of live (live_width * u) w) ≡ u + w = omega (arith, length_uncommitted live runs undo 0 0 0 u, length_waiting live (live_width * u) w) in
-      let p : first_of (behind_first (rows (view_of count largest u w live runs undo) (call_of σ v cells room))) ≡ first_of (shape_rows count v cells room ++ (known_rows lives fresh is_first ++ rest)) = λ i. first_of
+      λ i. first_of
       (shape_rows count v cells room
       ++ (known_rows (is_in n (ns i)) fresh (number i)
       ++ last_rows (eqb v.kind 1) (eqb v.kind 2) fresh (at (λ x. finished x.state) i) (at (λ x. not (multi v.fragment) || not (eqb x.first.coordinator v.fragment.coordinator)) i) (leb most_live (many i))
-      (at (λ x. leb most_fragments x.ran) i) (at (λ x. not (finished x.state)) i) (at (λ x. failed x.state) i))) in
-      sym p ∙ refused_sound (view_of count largest u w live runs undo) (call_of σ v cells room) is_sound
+      (at (λ x. leb most_fragments x.ran) i) (at (λ x. not (finished x.state)) i) (at (λ x. failed x.state) i)))
 
-  pub by_shape : (e : Refusal) → number_of e ≡ first_of (shape_rows count v cells room) → number_of e ≡ whole
-  by_shape e es = es ∙ sym (first_hit (shape_rows count v cells room) (known_rows lives fresh is_first ++ rest) (λ z. number_not_0 e (es ∙ z))) ∙ cut
+  pub by_shape : (s : ℕ) → s ≡ first_of (shape_rows count v cells room) → (s ≡ 0 → ⊥) → s ≡ whole
+  by_shape s es h = es ∙ sym (first_hit (shape_rows count v cells room) (known_rows lives fresh is_first ++ rest) (λ z. h (es ∙ z))) ∙ sym cut
 
   module _ (shaped : 0 ≡ first_of (shape_rows count v cells room)) where
     behind : first_of (known_rows lives fresh is_first ++ rest) ≡ whole
     behind =
         sym (first_miss (shape_rows count v cells room) (known_rows lives fresh is_first ++ rest) (omega arith) (sym shaped))
-        ∙ cut
+        ∙ sym cut
 
-    pub by_known : (e : Refusal) → number_of e ≡ first_of (known_rows lives fresh is_first) → number_of e ≡ whole
-    by_known e ek = ek ∙ sym (first_hit (known_rows lives fresh is_first) rest (λ z. number_not_0 e (ek ∙ z))) ∙ behind
+    pub by_known : (k : ℕ) → k ≡ first_of (known_rows lives fresh is_first) → (k ≡ 0 → ⊥) → k ≡ whole
+    by_known k ek h = ek ∙ sym (first_hit (known_rows lives fresh is_first) rest (λ z. h (ek ∙ z))) ∙ behind
 
     module _ (is_known : 0 ≡ first_of (known_rows lives fresh is_first)) where
       beyond : first_of rest ≡ whole

@@ -217,9 +217,9 @@ pub(crate) fn decision_row(
     Ok(())
 }
 
-// The refusal of a call, whatever the scheme: "Checks run in this order and the first that applies is returned". What is lent comes as slices of
-// its own, as the contract names them: nothing below takes all of it, so a struct of references would be made for this call alone.
-pub fn refused(
+// "Checks run in this order and the first that applies is returned": from row 2 on, whatever the scheme. What is lent comes as slices of its own, as
+// the contract names them: nothing below takes all of it, so a struct of references would be made for this call alone.
+pub(crate) fn refused_row(
     counts: Counts,
     live: &[u32],
     runs: &[u32],
@@ -228,12 +228,10 @@ pub fn refused(
     room: &[u32],
     event: &[u32],
 ) -> Result<(), Refusal>
-    ensures { (σ : Scheme) → returned result ≡ refusal (view_by counts live.now runs.now undo.now)
-        (call_of σ (event_of event.now) cells.now room.now) }
+    ensures { (σ : Scheme) → returned result ≡ first_of (behind_first (rows
+        (view_by counts live.now runs.now undo.now)
+        (call_of σ (event_of event.now) cells.now room.now))) }
 {
-    if !soundness::is_sound(counts, live, runs, undo) {
-        return Err(Refusal::UnsoundRecord);
-    }
     let kind = shape_row(counts.cells, cells, room, event)?;
     let number = event[1];
     let lives = is_live(live, counts.uncommitted, counts.waiting, number);
@@ -253,4 +251,23 @@ pub fn refused(
         Kind::Commit => decision_row(true, fresh, front, runs),
         Kind::Abort => decision_row(false, fresh, front, runs),
     }
+}
+
+// The refusal of a call, whatever the scheme: soundness first, then the other rows of the table.
+pub fn refused(
+    counts: Counts,
+    live: &[u32],
+    runs: &[u32],
+    undo: &[u32],
+    cells: &[u32],
+    room: &[u32],
+    event: &[u32],
+) -> Result<(), Refusal>
+    ensures { (σ : Scheme) → returned result ≡ refusal (view_by counts live.now runs.now undo.now)
+        (call_of σ (event_of event.now) cells.now room.now) }
+{
+    if !soundness::is_sound(counts, live, runs, undo) {
+        return Err(Refusal::UnsoundRecord);
+    }
+    refused_row(counts, live, runs, undo, cells, room, event)
 }

@@ -251,3 +251,7 @@ module _ (count largest uncommitted waiting : ℕ) (live runs undo : List ℕ) w
       same (sound (view_of count largest uncommitted waiting live runs undo)) (groups count largest uncommitted waiting live runs undo)
       (λ h. of_sound (sound_parts (view_of count largest uncommitted waiting live runs undo) h))
       (λ h. parts_sound (view_of count largest uncommitted waiting live runs undo) (to_sound h))
+
+  -- the same from the groups
+  pub groups_sound : groups count largest uncommitted waiting live runs undo ≡ sound (view_of count largest uncommitted waiting live runs undo)
+  groups_sound = sym sound_groups

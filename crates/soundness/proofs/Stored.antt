@@ -97,7 +97,7 @@ shuffle true true true false f k true = refl
 shuffle true true true false f k false = refl
 
 -- all that is asked of a stored fragment, where its words stand
-stored_by : (l : List ℕ) (at ct n : ℕ) → get_or l (at + 3) 0 ≡ n → n ≤ 8
+pub stored_by : (l : List ℕ) (at ct n : ℕ) → get_or l (at + 3) 0 ≡ n → n ≤ 8
     → storable ct (fragment_at l at) ≡ (leb 1 n && leb n 8 && every (storable_op ct) (ops_from l (at + 4) n) && every is_zero (numbers_from l (at + 4 + op_width * n) (ops_width - op_width * n)) && leb (get_or l (at + 1) 0) 3 && formed_kind_of (get_or l (at + 1) 0) (get_or l (at + 2) 0))
 unfolding formed inside operations fragment_at multi last
 stored_by l at ct n e h =
@@ -121,7 +121,7 @@ swap false true = refl
 swap false false = refl
 
 -- "operations not 1 to 8"
-stored_many : (l : List ℕ) (at ct : ℕ) → 8 < get_or l (at + 3) 0 → false ≡ storable ct (fragment_at l at)
+pub stored_many : (l : List ℕ) (at ct : ℕ) → 8 < get_or l (at + 3) 0 → false ≡ storable ct (fragment_at l at)
 unfolding formed fragment_at
 stored_many l at ct h = go (leb 1 (get_or l (at + 3) 0)) _ _ _ _ _ ∙ ap (λ (x : Bool). (leb 1 (get_or l (at + 3) 0) && x && every formed_op (operations (fragment_at l at)) && every blank_op (drop (get_or l (at + 3) 0) (fragment_at l at).row) && leb (get_or l (at + 1) 0) 3 && formed_kind (fragment_at l at)) && inside ct (fragment_at l at)) (sym (lt-leb (get_or l (at + 3) 0) 8 h))
   where

@@ -4,8 +4,8 @@ use native.Mathlib.Omega.{arith}
 use native.Mathlib.Numerals.{add-one}
 use mathlib.Core.Path.{◌≡◌, refl, sym, ap, ◌∙◌}
 use mathlib.Core.List.{List, [], ◌∷◌, ◌++◌}
-use lib.ListN.{length, get_or, set, length-append}
-use lib.Seq.{sets, set_comm}
+use lib.ListN.{length, get_or, set, drop, length-append, drop_of_length-le}
+use lib.Seq.{sets, set_comm, drop-cons}
 use Rattle.model.specs.Limits.{most_operations, answer_words}
 use Rattle.trace.specs.Format.{word_at, words_from}
 use Rattle.trace.specs.Text.{decimal, fields_from, line_from, line_e, told_from, line_a, line_c}
@@ -151,6 +151,23 @@ length-told room b =
 pub length_a : (room : List ℕ) (i : ℕ) → length (line_a room i) ≤ 156
 unfolding line_a
 length_a room i = omega (arith, length-append (told_from room (answer_words * i)) (10 ∷ []), length-told room (answer_words * i))
+
+-- so does one that was written from a buffer's start, whichever answer it is of
+pub fits_a : (room : List ℕ) (i n : ℕ) → n ≡ 0 + length (line_a room i) → n ≤ 156
+fits_a room i n e = omega (arith, length_a room i)
+
+-- one turn of writing a text: i of its bytes are written
+pub text_turn : (b b' text all : List ℕ) (at i w : ℕ) → i < length text → w ≡ get_or text i 0 → b' ≡ set b (at + i) w → sets b (at + i) (drop i text) ≡ all → sets b' (at + (i + 1)) (drop (i + 1) text) ≡ all
+text_turn b b' text all at i w h ew es inv =
+    let p : at + (i + 1) ≡ suc (at + i) = omega arith in
+    let q : i + 1 ≡ suc i = omega arith in
+    (λ k. sets ((es ∙ ap (set b (at + i)) ew) k) (p k) (drop (q k) text)) ∙ ap (sets b (at + i)) (sym (drop-cons text i 0 h)) ∙ inv
+
+pub text_start : (b text : List ℕ) (at : ℕ) → sets b (at + 0) (drop 0 text) ≡ sets b at text
+text_start b text at = let z : at + 0 ≡ at = omega arith in ap (λ (x : ℕ). sets b x text) z
+
+pub text_end : (b text all : List ℕ) (at i : ℕ) → length text ≤ i → sets b (at + i) (drop i text) ≡ all → b ≡ all
+text_end b text all at i h inv = sym (ap (sets b (at + i)) (drop_of_length-le text h)) ∙ inv
 
 -- the fields of an answer: with as many numbers as it says, at most eight
 pub told_is : (room : List ℕ) (b at : ℕ) (l : List ℕ) {n p q r : ℕ} {l1 l2 l3 : List ℕ} → n ≡ last_fields room b

@@ -15,6 +15,10 @@ use Rattle.trace.proofs.put_a.Kinds as put-a-kinds
 use Rattle.trace.proofs.put_a.Reads as put_a
 use Rattle.trace.proofs.put_c.Kinds as put-c-kinds
 use Rattle.trace.proofs.put_c.Reads as put-c
+use Rattle.trace.proofs.put_bad.Kinds as put-bad-kinds
+use Rattle.trace.proofs.put_bad.Reads as put-bad
+use Rattle.trace.proofs.put_bad_scheme.Kinds as put-bad-scheme-kinds
+use Rattle.trace.proofs.put_bad_scheme.Reads as put-bad-scheme
 
 pub word_unique : Unique word-kinds.ps word-kinds.r word.Learnt
 word_unique κs a z z' ws ws' p q = (cc, refl)
@@ -42,5 +46,15 @@ put_a_unique κs a z z' ws ws' p q =
 
 pub put_c_unique : Unique put-c-kinds.ps put-c-kinds.r put-c.Learnt
 put_c_unique κs a z z' ws ws' p q =
+    let b : ws.0 ≡ ws'.0 = cc in
+    (cc, λ j. (b j, ws.1))
+
+pub put_bad_unique : Unique put-bad-kinds.ps put-bad-kinds.r put-bad.Learnt
+put_bad_unique κs a z z' ws ws' p q =
+    let b : ws.0 ≡ ws'.0 = cc in
+    (cc, λ j. (b j, ws.1))
+
+pub put_bad_scheme_unique : Unique put-bad-scheme-kinds.ps put-bad-scheme-kinds.r put-bad-scheme.Learnt
+put_bad_scheme_unique κs a z z' ws ws' p q =
     let b : ws.0 ≡ ws'.0 = cc in
     (cc, λ j. (b j, ws.1))

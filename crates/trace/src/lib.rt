@@ -5,7 +5,7 @@
 ghost use Rattle.std.specs.Prelude.{◌≡◌, ◌+◌, ◌*◌, ◌<◌, ◌≤◌, length, get_or};
 ghost use Rattle.std.proofs.lemmas.List.Edits.{sets};
 ghost use Rattle.trace.specs.Format.{word_at, words_from, op_from, event_at, shape_of};
-ghost use Rattle.trace.specs.Text.{decimal, fields_from, line_from, line_e, told_from, line_a, line_c};
+ghost use Rattle.trace.specs.Text.{decimal, fields_from, line_from, line_e, told_from, line_a, line_c, bad_trace, bad_scheme};
 
 use model::{Event, Fragment, Op};
 
@@ -220,4 +220,33 @@ pub fn put_c(buffer: &mut [u8], at: u32, cell: u32, content: u32) -> usize
     ensures buffer_after { buffer.new ≡ sets buffer.old at (line_c cell content) }
 {
     put_line(buffer, at, b'c', &[cell, content], 0, 2)
+}
+
+// A text from place `at` on.
+pub(crate) fn put_text(buffer: &mut [u8], at: u32, text: &[u8]) -> usize
+    requires { length text.now < 1024 }
+    ensures value { result ≡ at + length text.now }
+    ensures buffer_after { buffer.new ≡ sets buffer.old at text.now }
+{
+    let start = at as usize;
+    for i in 0..text.len() {
+        operations::put_at(buffer, start + i, text[i]);
+    }
+    start + text.len()
+}
+
+// "Else it prints `bad trace` alone."
+pub fn put_bad(buffer: &mut [u8], at: u32) -> usize
+    ensures value { result ≡ at + length bad_trace }
+    ensures buffer_after { buffer.new ≡ sets buffer.old at bad_trace }
+{
+    put_text(buffer, at, b"bad trace\n")
+}
+
+// `bad scheme` alone, where the command's word names none.
+pub fn put_bad_scheme(buffer: &mut [u8], at: u32) -> usize
+    ensures value { result ≡ at + length bad_scheme }
+    ensures buffer_after { buffer.new ≡ sets buffer.old at bad_scheme }
+{
+    put_text(buffer, at, b"bad scheme\n")
 }

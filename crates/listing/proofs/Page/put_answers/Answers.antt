@@ -1,10 +1,9 @@
 use native.Mathlib.Omega.{arith}
-use mathlib.Core.Path.{refl, sym, ap, ◌∙◌}
-use lib.ListN.{length}
+use mathlib.Core.Path.{refl, sym, ◌∙◌}
 use lib.Seq.{length-take-le}
 use Rattle.trace.specs.Text.{line_a}
-use Rattle.trace.proofs.Lines.{length_a}
-use Rattle.listing.proofs.Texts.{line_written, put_moved, put_written, lines_start, lines_turn, lines_end}
+use Rattle.trace.proofs.Lines.{length_a, fits_a}
+use Rattle.listing.proofs.Texts.{put_moved, put_written, lines_start, lines_turn, lines_end}
 use Rattle.listing.proofs.Page.put_answers.Goals as goal
 
 pub loop-i-init : goal.loop-i-init
@@ -12,16 +11,17 @@ loop-i-init c = let s = c.args.self.now in
     (refl, refl, omega arith, lines_start s.from (line_a c.args.room.now) c.args.count s.buffer.now s.at)
 
 pub slice_bounds-line-end : goal.slice_bounds-line-end
-slice_bounds-line-end c = omega (arith, c.put_a-n.auto.buffer, c.put_a-n.ensures.value, length_a c.args.room.now c.loop-i.i)
+slice_bounds-line-end c = omega (arith, c.put_a-n.auto.buffer, fits_a _ _ _ c.put_a-n.ensures.value)
 
 pub slice_bounds-put_text-end : goal.slice_bounds-put_text-end
-slice_bounds-put_text-end c = sym (length-take-le c.put_a-n.result c.put_a-n.new.buffer (omega (arith, c.put_a-n.auto.buffer, c.put_a-n.ensures.value, length_a c.args.room.now c.loop-i.i)))
+slice_bounds-put_text-end c = sym (length-take-le c.put_a-n.result c.put_a-n.new.buffer (omega (arith, c.put_a-n.auto.buffer, fits_a _ _ _ c.put_a-n.ensures.value)))
 
 pub put_text-requires : goal.put_text-requires
 put_text-requires c =
     let l = c.loop-i in
     let d = c.put_a-n in
-    omega (arith, ap length (line_written l.line d.new.buffer (line_a c.args.room.now c.loop-i.i) d.result d.ensures.value d.ensures.buffer_after (omega (arith, length_a c.args.room.now c.loop-i.i))), length_a c.args.room.now c.loop-i.i, l.invariant.2, c.requires)
+    let few = fits_a _ _ _ d.ensures.value in
+    omega (arith, length-take-le d.result d.new.buffer (omega (arith, d.auto.buffer, few)), few, l.invariant.2, c.requires)
 
 pub loop-i-preserved : goal.loop-i-preserved
 loop-i-preserved c = let a = c.args in
