@@ -218,7 +218,7 @@ pub(crate) fn decision_row(
 }
 
 // "Checks run in this order and the first that applies is returned": from row 2 on, whatever the scheme. What is lent comes as slices of its own, as
-// the contract names them: nothing below takes all of it, so a struct of references would be made for this call alone.
+// the contracts name them: nothing below takes all of it, so a struct of references would be made for these two alone.
 pub(crate) fn refused_row(
     counts: Counts,
     live: &[u32],
