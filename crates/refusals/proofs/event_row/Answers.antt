@@ -16,6 +16,15 @@ decides Fragment e = elim e [ inl x ↦ cc | inr x ↦ cc ]
 decides Commit e = (omega arith, omega arith)
 decides Abort e = (omega arith, omega arith)
 
+pub returns-else-not-is_blank_at : goal.returns-else-not-is_blank_at
+unfolding event_of
+returns-else-not-is_blank_at c = let a = c.args in
+    let v = event_of a.event.now in
+    let o = kind_first a.event.now c.try_from.result (omega arith) c.try_from.ensures ∙ c.in_ok-kind.was in
+    let k = kind_word v.kind c.in_ok-kind.kind o in
+    let d = decides c.in_ok-kind.kind c.in-Commit.is in
+    record { row = event_decides a.count v c.if-event-lt1.false (omega arith) (omega arith) (sym c.if-not-is_blank_at.ensures); kind = o }
+
 pub returns-in_err-kind-clause-row : goal.returns-in_err-kind-clause-row
 unfolding event_of
 returns-in_err-kind-clause-row c = let a = c.args in
@@ -50,12 +59,3 @@ returns-then-not-is_blank_at c = let a = c.args in
     let k = kind_word v.kind c.in_ok-kind.kind (kind_first a.event.now c.try_from.result (omega arith) c.try_from.ensures ∙ c.in_ok-kind.was) in
     let d = decides c.in_ok-kind.kind c.in-Commit.is in
     record { row = event_more a.count v c.if-event-lt1.false (omega arith) (omega arith) (sym c.if-not-is_blank_at.ensures); kind = tt }
-
-pub returns-else-not-is_blank_at : goal.returns-else-not-is_blank_at
-unfolding event_of
-returns-else-not-is_blank_at c = let a = c.args in
-    let v = event_of a.event.now in
-    let o = kind_first a.event.now c.try_from.result (omega arith) c.try_from.ensures ∙ c.in_ok-kind.was in
-    let k = kind_word v.kind c.in_ok-kind.kind o in
-    let d = decides c.in_ok-kind.kind c.in-Commit.is in
-    record { row = event_decides a.count v c.if-event-lt1.false (omega arith) (omega arith) (sym c.if-not-is_blank_at.ensures); kind = o }

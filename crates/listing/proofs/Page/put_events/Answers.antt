@@ -9,18 +9,6 @@ use Rattle.listing.proofs.Sizes.{few_called, length-event}
 use Rattle.listing.proofs.Page.put_events.Goals.{in-Ok, in-Err}
 use Rattle.listing.proofs.Page.put_events.Goals as goal
 
-pub put_event-requires : goal.put_event-requires
-put_event-requires c = let a = c.args in
-    let l = c.loop-i in
-    let m = c.match-done in
-    let z = c.call_by-done.result in
-    let d : Called = record { number = m.number.0; answers = m.number.1; next = z.next } in
-    let same : d ≡ told_by z.answers z.next = elim m.branch [
-      | in-Ok w ↦ rw (w.number-is, w.in-Ok.is) refl
-      | in-Err w ↦ rw (w.number-is, w.into.ensures, w.in-Err.is) refl
-    ] in
-    omega (arith, few_called a.scheme l.«record» c.event_at-event.result l.cells l.room d (same ∙ c.call_by-done.ensures.value), l.invariant.2, c.loop-i-test.true, c.requires.2)
-
 pub loop-i-preserved : goal.loop-i-preserved
 loop-i-preserved c = let a = c.args in
     let s = a.self.now in
@@ -44,6 +32,18 @@ loop-i-preserved c = let a = c.args in
       play_turn a.scheme a.bytes.now a.shape.first a.shape.events l.i l.«record» l.cells l.room v.result d n.cells n.room h v.ensures told ok.cells_after ok.room_after _ l.invariant.3,
       events_turn a.scheme a.bytes.now a.shape.first a.shape.events l.i l.«record» l.cells l.room v.result d n.cells n.room h v.ensures told ok.cells_after ok.room_after s.from l.self.buffer.now e.new.self.buffer.now s.buffer.now l.self.at e.new.self.at _ (put_moved s.from l.self.from _ _ _ _ _ _ l.invariant.1 refl e.ensures.put) l.invariant.4,
     )
+
+pub put_event-requires : goal.put_event-requires
+put_event-requires c = let a = c.args in
+    let l = c.loop-i in
+    let m = c.match-done in
+    let z = c.call_by-done.result in
+    let d : Called = record { number = m.number.0; answers = m.number.1; next = z.next } in
+    let same : d ≡ told_by z.answers z.next = elim m.branch [
+      | in-Ok w ↦ rw (w.number-is, w.in-Ok.is) refl
+      | in-Err w ↦ rw (w.number-is, w.into.ensures, w.in-Err.is) refl
+    ] in
+    omega (arith, few_called a.scheme l.«record» c.event_at-event.result l.cells l.room d (same ∙ c.call_by-done.ensures.value), l.invariant.2, c.loop-i-test.true, c.requires.2)
 
 pub returns-clause-cells_after : goal.returns-clause-cells_after
 returns-clause-cells_after c = let a = c.args in
